@@ -1,0 +1,29 @@
+//! Addresses, texts, values, fields as read, and sheet names.
+#![tactic(auto)]
+
+pub mod address;
+pub mod fields;
+pub mod interned;
+pub mod names;
+pub mod values;
+
+pub use address::{Addr, Area};
+pub use fields::{FieldText, Raw};
+pub use interned::{TextId, Texts};
+pub use names::{NameFault, SheetNames};
+pub use values::{Code, Shown, Value};
+
+/// A whole number of the formula language.
+pub type Int = i64;
+
+/// The least number.
+pub const INT_MIN: Int = i64::MIN;
+
+/// The greatest number.
+pub const INT_MAX: Int = i64::MAX;
+
+/// The last column, IV. Columns count from 1.
+pub const LAST_COLUMN: u16 = 256;
+
+/// The last row. Rows count from 1.
+pub const LAST_ROW: u32 = 65_536;
