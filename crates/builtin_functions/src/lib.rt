@@ -1,0 +1,8 @@
+//! The operators and accumulators of the formula language, on values alone.
+#![tactic(auto)]
+
+pub mod folds;
+pub mod operators;
+
+pub use folds::{Fold, FoldKind, Go};
+pub use operators::{Op2, Sign2};
