@@ -13,6 +13,7 @@ impl Model for FieldText {
     ghost use Rattle.std.specs.Prelude.{ℕ, List, string_bytes};
 
     ghost Value = { List ℕ };
+
     ghost view = { λ f. string_bytes f.text };
 }
 

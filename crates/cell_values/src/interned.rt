@@ -17,5 +17,6 @@ impl Model for Texts {
     ghost use Rattle.std.specs.Prelude.{string_bytes};
 
     ghost Value = { List (List ℕ) };
+
     ghost view = { λ t. map string_bytes t.texts.items };
 }

@@ -20,5 +20,6 @@ impl Model for SheetNames {
     ghost use Rattle.std.specs.Prelude.{ℕ, List, map, string_bytes};
 
     ghost Value = { List (List ℕ) };
+
     ghost view = { λ s. map string_bytes s.names.items };
 }

@@ -1,0 +1,5 @@
+pub mod Plan
+pub mod Formula
+pub mod Book
+pub mod TextNumbers
+pub mod Laws
