@@ -2,3 +2,4 @@ pub mod Numbers
 pub mod Addresses
 pub mod Areas
 pub mod Texts
+pub mod CellText

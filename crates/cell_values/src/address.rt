@@ -1,5 +1,12 @@
 //! Where cells stand.
 
+ghost use Rattle.std.specs.Prelude.{◌≡◌, ◌≤◌, IfOk, All, string_bytes};
+ghost use Rattle.std.specs.List.{prefix_len};
+ghost use Rattle.std.specs.Char.{IsAsciiAlphabetic, is_ascii_alphabetic};
+
+use crate::{LAST_COLUMN, LAST_ROW};
+use std::alloc::{AllocError, Global};
+
 /// A cell's place: the sheet from 0, the row and the column from 1. Addresses are ordered by sheet,
 /// then row, then column.
 #[derive(Clone, Copy, Debug, PartialEq, Eq, PartialOrd, Ord)]
@@ -19,3 +26,96 @@ pub struct Area {
     pub bottom: u32,
     pub right: u16,
 }
+
+impl Addr {
+    ghost use Rattle.cell_values.specs.Addresses.{IsOnSheet};
+    ghost use Rattle.cell_values.specs.CellText.{read_addr, cell_text};
+
+    /// Reads a cell's text, as `B7` or `iv65536`: letters of either case, then digits. None where the
+    /// text has another form, or the column or the row is outside a sheet.
+    #[tactic(auto, using(crate::proofs::CellTexts::letters_within, crate::proofs::CellTexts::letters_pass))]
+    pub fn read(sheet: u8, text: &str) -> Option<Addr>
+        ensures { result ≡ read_addr sheet text.now }
+    {
+        let text = text.as_bytes();
+        let (letters, digits) = text.split_at(letter_count(text));
+        let col = read_column(letters)?;
+        let row = read_row(digits)?;
+        Some(Addr { sheet, row, col })
+    }
+
+    /// The column in capitals and the row, as `IV65536`.
+    pub fn cell_text(&self, alloc: Global) -> Result<String, AllocError>
+        requires { IsOnSheet self.now }
+        ensures { IfOk result (λ text. string_bytes text ≡ cell_text self.now) }
+    {
+        let column = column_text(alloc, self.col)?;
+        format!(in alloc; "{column}{}", self.row)
+    }
+}
+
+ghost use Rattle.cell_values.specs.CellText.{named_column, named_row, column_letters};
+
+/// How many letters a text begins with.
+fn letter_count(text: &[u8]) -> usize
+    ensures { result ≡ prefix_len is_ascii_alphabetic text.now }
+{
+    text.iter().take_while(|c| c.is_ascii_alphabetic()).count()
+}
+
+/// The column that letters name.
+#[tactic(auto, using(crate::proofs::CellTexts::column_start, crate::proofs::CellTexts::column_step, crate::proofs::CellTexts::column_done, crate::proofs::CellTexts::column_over))]
+fn read_column(letters: &[u8]) -> Option<u16>
+    requires { All IsAsciiAlphabetic letters.now }
+    ensures { result ≡ named_column letters.now }
+{
+    let mut col = 0;
+    for letter in letters {
+        col = 26 * col + u16::from(letter.to_ascii_uppercase() - b'@');
+        if col > LAST_COLUMN {
+            return None;
+        }
+    }
+    if col == 0 { None } else { Some(col) }
+}
+
+/// The row that digits name.
+#[tactic(auto, using(crate::proofs::CellTexts::row_start, crate::proofs::CellTexts::row_step, crate::proofs::CellTexts::row_done, crate::proofs::CellTexts::row_over, crate::proofs::CellTexts::row_ends))]
+fn read_row(digits: &[u8]) -> Option<u32>
+    ensures { result ≡ named_row digits.now }
+{
+    let mut row = 0;
+    for digit in digits {
+        if !digit.is_ascii_digit() {
+            return None;
+        }
+        row = 10 * row + u32::from(digit - b'0');
+        if row > LAST_ROW {
+            return None;
+        }
+    }
+    if row == 0 { None } else { Some(row) }
+}
+
+/// The column in capitals.
+#[tactic(auto, using(std::proofs::lemmas::Str::encode_ascii), unfolding(crate::specs::CellText::column_letters))]
+fn column_text(alloc: Global, col: u16) -> Result<String, AllocError>
+    requires from { 1 ≤ col }
+    requires to { col ≤ 256 }
+    ensures { IfOk result (λ text. string_bytes text ≡ column_letters col) }
+{
+    let mut text = String::new(alloc);
+    if col > 26 {
+        text.push((b'@' + ((col - 1) / 26) as u8) as char)?;
+    }
+    text.push((b'A' + ((col - 1) % 26) as u8) as char)?;
+    Ok(text)
+}
+
+ghost use Rattle.cell_values.specs.CellText.{CellTextReadsBack};
+
+/// The text of each cell of a sheet is read as that cell.
+#[tactic(auto, using(crate::proofs::ReadBack::cell_text_reads_back))]
+pub fn law_cell_text_reads_back()
+    ensures { CellTextReadsBack }
+{}
