@@ -1,2 +1,3 @@
 pub mod CellTexts
 pub mod ReadBack
+pub mod Numbering

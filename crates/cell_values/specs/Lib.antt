@@ -3,3 +3,5 @@ pub mod Addresses
 pub mod Areas
 pub mod Texts
 pub mod CellText
+pub mod Interned
+pub mod ShownText

@@ -1,6 +1,10 @@
 //! What formulas compute with, and what a cell shows.
 
-use crate::{Int, TextId};
+ghost use Rattle.std.specs.Prelude.{◌≡◌, IfOk, string_bytes};
+
+use crate::{Int, TextId, Texts};
+use std::alloc::{AllocError, Global};
+use std::fmt;
 
 /// An error value.
 #[derive(Clone, Copy, Debug, PartialEq, Eq)]
@@ -35,4 +39,62 @@ pub enum Shown {
     Cycle,
     /// The cell's first unfinished demands lead into a cycle that it is not on.
     ToCycle,
+}
+
+impl Code {
+    ghost use Rattle.cell_values.specs.ShownText.{code_text};
+
+    /// The text that a cell shows.
+    pub fn text(&self) -> &'static str
+        ensures { result.now ≡ code_text self.now }
+    {
+        match self {
+            Code::Div => "#DIV/0!",
+            Code::Value => "#VALUE!",
+            Code::Ref => "#REF!",
+            Code::Num => "#NUM!",
+            Code::Na => "#N/A",
+        }
+    }
+}
+
+impl fmt::Display for Code {
+    fn fmt<W: fmt::Write>(&self, f: &mut fmt::Formatter<W>) -> fmt::Result {
+        f.write_str(self.text())
+    }
+}
+
+impl Value {
+    ghost use Rattle.cell_values.specs.ShownText.{value_text, IsValueOf};
+
+    /// The text that a cell with this value shows.
+    pub fn show_text(&self, alloc: Global, texts: &Texts) -> Result<String, AllocError>
+        requires { IsValueOf texts.now self.now }
+        ensures { IfOk result (λ text. string_bytes text ≡ value_text texts.now self.now) }
+    {
+        match *self {
+            Value::Number(number) => format!(in alloc; "{number}"),
+            Value::Text(id) => String::from_str(alloc, texts.get(id)),
+            Value::Bool(true) => String::from_str(alloc, "TRUE"),
+            Value::Bool(false) => String::from_str(alloc, "FALSE"),
+            Value::Blank => Ok(String::new(alloc)),
+            Value::Error(code) => String::from_str(alloc, code.text()),
+        }
+    }
+}
+
+impl Shown {
+    ghost use Rattle.cell_values.specs.ShownText.{shown_text, IsShownOf};
+
+    /// The text that the cell shows.
+    pub fn show_text(&self, alloc: Global, texts: &Texts) -> Result<String, AllocError>
+        requires { IsShownOf texts.now self.now }
+        ensures { IfOk result (λ text. string_bytes text ≡ shown_text texts.now self.now) }
+    {
+        match self {
+            Shown::Val(value) => value.show_text(alloc, texts),
+            Shown::Cycle => String::from_str(alloc, "#CYCLE!"),
+            Shown::ToCycle => String::from_str(alloc, "#TOCYCLE!"),
+        }
+    }
 }
