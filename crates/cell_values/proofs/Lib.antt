@@ -1,3 +1,4 @@
 pub mod CellTexts
 pub mod ReadBack
 pub mod Numbering
+pub mod FieldNumbers

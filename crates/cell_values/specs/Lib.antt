@@ -5,3 +5,4 @@ pub mod Texts
 pub mod CellText
 pub mod Interned
 pub mod ShownText
+pub mod Fields
