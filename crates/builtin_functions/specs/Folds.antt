@@ -4,6 +4,8 @@ use Rattle.cell_values.specs.declared.values.Code.{Code}
 use Rattle.cell_values.specs.declared.values.Value.{Value}
 use Rattle.cell_values.specs.Numbers.{fits}
 use Rattle.builtin_functions.specs.declared.folds.FoldKind.{FoldKind}
+use Rattle.builtin_functions.specs.declared.folds.Fold.{Fold}
+use Rattle.builtin_functions.specs.declared.folds.Go.{Go}
 
 -- the numbers so far in one number, none before the first
 abbrev pub Total : Type 0
@@ -45,15 +47,35 @@ taken k t false (Value.Text s) = stops k t
 taken k t true (Value.Bool b) = Ok t
 taken k t false (Value.Bool b) = stops k t
 
+-- a fold with the total after a value; as before where the walk ends
+abbrev pub fold_after : Fold → Result Total Code → Fold
+fold_after f (Ok t) = record f { total = t }
+fold_after f (Err e) = f
+
+-- whether the walk goes on after a value
+abbrev pub goes_on : Result Total Code → Go
+goes_on (Ok t) = Go.More
+goes_on (Err e) = Go.Stop e
+
+-- the walk goes on with the total, unless it has ended
+abbrev pub and_then_take : Result Total Code → (Total → Result Total Code) → Result Total Code
+and_then_take (Ok t) f = f t
+and_then_take (Err e) f = Err e
+
 -- values on, one after the other, each from a range or not
 abbrev pub taken_all : FoldKind → Total → List (Value × Bool) → Result Total Code
 taken_all k t [] = Ok t
-taken_all k t (v ∷ rest) = and_take (taken k t v.1 v.0) (λ u. taken_all k u rest)
-  where
-    and_take : Result Total Code → (Total → Result Total Code) → Result Total Code
-    and_take (Ok u) f = f u
-    and_take (Err e) f = Err e
+taken_all k t (v ∷ rest) = and_then_take (taken k t v.1 v.0) (λ u. taken_all k u rest)
 
 -- what the fold gives at its end: 0 of no number
 abbrev pub end_value : Total → Value
 end_value t = Value.Number (so_far t)
+
+-- what a walk gives: what the fold gives at its end, or the error that ends it
+abbrev pub walk_value : Result Total Code → Value
+walk_value (Ok t) = end_value t
+walk_value (Err e) = Value.Error e
+
+-- what the fold gives of values, each from a range or not
+abbrev pub fold_value : FoldKind → List (Value × Bool) → Value
+fold_value k vs = walk_value (taken_all k None vs)

@@ -7,13 +7,28 @@ use Rattle.std.specs.Cmp.Lexicographic.{slice_cmp}
 use Rattle.cell_values.specs.declared.values.Code.{Code}
 use Rattle.cell_values.specs.declared.values.Value.{Value}
 use Rattle.cell_values.specs.Numbers.{fits}
-use Rattle.cell_values.specs.Texts.{Texts, text_at}
+use Rattle.cell_values.specs.Texts.{Texts, text_at, IsTextOf}
 use Rattle.builtin_functions.specs.declared.operators.Op2.{Op2}
 use Rattle.builtin_functions.specs.declared.operators.Sign2.{Sign2}
+
+-- a Text's number is one of these texts'
+abbrev pub IsValueOf : Texts → Value → Type 0
+IsValueOf ts (Value.Text t) = IsTextOf ts t
+IsValueOf ts _ = Unit {0}
 
 -- the number, `#NUM!` where it does not fit
 unfoldable pub number : ℤ → Value
 number n = if fits n then Value.Number n else Value.Error Code.Num
+
+-- a number found, `#NUM!` where there is none
+abbrev pub or_num : Option ℤ → Value
+or_num (Some n) = Value.Number n
+or_num None = Value.Error Code.Num
+
+-- an answer found, `#VALUE!` where there is none
+abbrev pub or_wrong_kind : Option Bool → Value
+or_wrong_kind (Some b) = Value.Bool b
+or_wrong_kind None = Value.Error Code.Value
 
 abbrev pub is_error : Value → Bool
 is_error (Value.Error e) = true
@@ -34,7 +49,7 @@ abbrev pub with_numbers : (ℤ → ℤ → Value) → Option ℤ → Option ℤ 
 with_numbers f (Some x) (Some y) = f x y
 with_numbers f _ _ = Value.Error Code.Value
 
--- the quotient, truncated towards zero
+-- the quotient truncated towards zero, `#DIV/0!` for a zero divisor
 unfoldable pub quotient : ℤ → ℤ → Value
 quotient x y = if is_zero y then Value.Error Code.Div else number (int_div x y)
 
@@ -47,8 +62,12 @@ with_sign_of (pos n) (negsuc r) = negsuc r +ℤ pos n
 with_sign_of (negsuc n) (negsuc r) = negsuc r
 
 -- the remainder with the divisor's sign
+abbrev pub remainder : ℤ → ℤ → ℤ
+remainder x y = with_sign_of y (int_rem x y)
+
+-- that remainder, `#DIV/0!` for a zero divisor
 unfoldable pub modulo : ℤ → ℤ → Value
-modulo x y = if is_zero y then Value.Error Code.Div else Value.Number (with_sign_of y (int_rem x y))
+modulo x y = if is_zero y then Value.Error Code.Div else Value.Number (remainder x y)
 
 abbrev pub bool_order : Bool → Bool → Ordering
 bool_order true true = Equal

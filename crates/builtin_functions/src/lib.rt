@@ -1,6 +1,8 @@
 //! The operators and accumulators of the formula language, on values alone.
 #![tactic(auto)]
 
+mod arithmetic;
+mod comparisons;
 pub mod folds;
 pub mod operators;
 
