@@ -1,6 +1,8 @@
 //! The definitions of demand evaluation, the laws on them, and a plain evaluator.
 #![tactic(auto)]
 
+ghost use Rattle.demand_spec.specs.Laws.{AskGrows, RoundsEnd, NeedIsThere, NeedIsMentioned, StackCloses, Carried, LoopsAreFound, PendingIsClosed, LoopInClosed, ShowsSame};
+
 pub mod view;
 
 use cell_values::{Addr, Int, TextId, Value};
@@ -23,3 +25,41 @@ pub enum Asked {
     Val(Value),
     Needs(Addr),
 }
+
+/// What is asked over more known values: a value stays, and so does a need that is still lacking.
+pub fn law_asks_grow()
+    ensures { AskGrows }
+{}
+
+/// Rounds grow and end, and a formula cell that is not finished needs a mentioned one.
+pub fn law_rounds_end()
+    ensures grow { RoundsEnd }
+    ensures there { NeedIsThere }
+    ensures mentioned { NeedIsMentioned }
+{}
+
+/// A stack whose top needs one of its own cells closes exactly one loop.
+pub fn law_stack_closes()
+    ensures { StackCloses }
+{}
+
+/// A cell that needs a cell on no loop is on no loop.
+pub fn law_carried()
+    ensures { Carried }
+{}
+
+/// The bounded test finds every loop.
+pub fn law_loops_are_found()
+    ensures { LoopsAreFound }
+{}
+
+/// Pending sets are closed, and a loop that meets a closed set lies in it.
+pub fn law_closed()
+    ensures pending { PendingIsClosed }
+    ensures loops { LoopInClosed }
+{}
+
+/// What an edit does not reach shows the same.
+pub fn law_shows_same()
+    ensures { ShowsSame }
+{}
