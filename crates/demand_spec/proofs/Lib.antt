@@ -5,3 +5,4 @@ pub mod Cycles
 pub mod Alike
 pub mod Local
 pub mod Walks
+pub mod Ordered

@@ -3,3 +3,4 @@ pub mod Formula
 pub mod Book
 pub mod TextNumbers
 pub mod Laws
+pub mod Listed

@@ -3,10 +3,12 @@
 
 ghost use Rattle.demand_spec.specs.Laws.{AskGrows, RoundsEnd, NeedIsThere, NeedIsMentioned, StackCloses, Carried, LoopsAreFound, PendingIsClosed, LoopInClosed, ShowsSame};
 
+pub mod book;
 pub mod view;
 
 use cell_values::{Addr, Int, TextId, Value};
 use formula_grammar::Tree;
+pub use book::PlainBook;
 pub use view::{BookView, Results};
 
 /// What a cell holds.

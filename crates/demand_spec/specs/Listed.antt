@@ -1,0 +1,78 @@
+-- Books and values as lists in order.
+use Rattle.std.specs.Prelude.{Option, Some, None, cond, ◌<◌, length, List, [], ◌∷◌}
+use Rattle.cell_values.specs.declared.address.Addr.{Addr}
+use Rattle.cell_values.specs.declared.interned.TextId.{TextId}
+use Rattle.cell_values.specs.declared.values.Shown.{Shown}
+use Rattle.cell_values.specs.declared.values.Value.{Value}
+use Rattle.cell_values.specs.Addresses.{same_addr, IsBefore, IsOnSheet}
+use Rattle.cell_values.specs.Texts.{Texts, IsTextOf}
+use Rattle.formula_grammar.specs.Expr.{Expr, expr_of}
+use Rattle.formula_grammar.specs.Sound.{IsSound}
+use Rattle.demand_spec.specs.declared.Cell.{Cell}
+use Rattle.demand_spec.specs.Book.{Book, Content, Known, formulas, shown}
+use Rattle.demand_spec.specs.TextNumbers.{TextBelow, TextsBelow}
+
+abbrev pub content_of : Cell → Content
+content_of (Cell.Number n) = Content.Number n
+content_of (Cell.Text t) = Content.Text t
+content_of (Cell.Bool b) = Content.Truth b
+content_of (Cell.Formula t) = Content.Formula (expr_of t)
+
+abbrev pub contents : List (Addr × Cell) → List (Addr × Content)
+contents [] = []
+contents (c ∷ rest) = (c.0, content_of c.1) ∷ contents rest
+
+abbrev pub IsBeforeAll : Addr → List (Addr × Content) → Type 0
+IsBeforeAll a [] = Unit {0}
+IsBeforeAll a (c ∷ rest) = IsBefore a c.0 × IsBeforeAll a rest
+
+-- the address lies after all of the book's
+abbrev pub IsAfterAll : Addr → List (Addr × Content) → Type 0
+IsAfterAll a [] = Unit {0}
+IsAfterAll a (c ∷ rest) = IsBefore c.0 a × IsAfterAll a rest
+
+-- each cell stands before all later ones
+abbrev pub InOrder : List (Addr × Content) → Type 0
+InOrder [] = Unit {0}
+InOrder (c ∷ rest) = IsBeforeAll c.0 rest × InOrder rest
+
+-- a formula is sound at its cell
+abbrev pub IsSoundAt : Addr → Content → Type 0
+IsSoundAt at (Content.Formula t) = IsSound at t
+IsSoundAt at _ = Unit {0}
+
+-- each cell is on its sheet, and each formula is sound
+abbrev pub AllSound : List (Addr × Content) → Type 0
+AllSound [] = Unit {0}
+AllSound (c ∷ rest) = IsOnSheet c.0 × IsSoundAt c.0 c.1 × AllSound rest
+
+-- the value that stands beside the address
+abbrev pub value_in : List (Addr × Value) → Known
+value_in [] a = None
+value_in (k ∷ rest) a = cond (same_addr a k.0) (Some k.1) (value_in rest a)
+
+-- each formula cell of the list, with what it shows
+abbrev pub shown_over : Book → List Addr → List (Addr × Shown)
+shown_over b [] = []
+shown_over b (c ∷ rest) = (c, shown b c) ∷ shown_over b rest
+
+-- all formula cells in order, with what they show
+abbrev pub all_shown : Book → List (Addr × Shown)
+all_shown b = shown_over b (formulas b)
+
+-- the text numbers of a formula, of a cell, of a book are numbers of these texts
+abbrev pub IsFormulaOf : Texts → Expr → Type 0
+IsFormulaOf ts t = TextsBelow (λ i. i < length ts) t
+
+abbrev pub IsContentOf : Texts → Content → Type 0
+IsContentOf ts (Content.Text t) = IsTextOf ts t
+IsContentOf ts (Content.Formula t) = IsFormulaOf ts t
+IsContentOf ts _ = Unit {0}
+
+abbrev pub AreCellsOf : Texts → List (Addr × Content) → Type 0
+AreCellsOf ts [] = Unit {0}
+AreCellsOf ts (c ∷ rest) = IsContentOf ts c.1 × AreCellsOf ts rest
+
+abbrev pub AreValuesOf : Texts → List (Addr × Value) → Type 0
+AreValuesOf ts [] = Unit {0}
+AreValuesOf ts (k ∷ rest) = TextBelow (λ i. i < length ts) k.1 × AreValuesOf ts rest
