@@ -6,3 +6,4 @@ pub mod Alike
 pub mod Local
 pub mod Walks
 pub mod Ordered
+pub mod Lookups

@@ -4,3 +4,4 @@ pub mod Book
 pub mod TextNumbers
 pub mod Laws
 pub mod Listed
+pub mod Stage

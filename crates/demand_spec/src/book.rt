@@ -1,7 +1,8 @@
 //! A plain book: cells in the order of their addresses.
-ghost use Rattle.std.specs.Prelude.{◌≡◌, [], ◌∷◌, ◌++◌, OnOk, OnErr};
-ghost use Rattle.cell_values.specs.Addresses.{IsOnSheet};
-ghost use Rattle.demand_spec.specs.Listed.{content_of, IsAfterAll, IsSoundAt};
+ghost use Rattle.std.specs.Prelude.{◌≡◌, [], ◌∷◌, ◌++◌, OnOk, OnErr, option_map, option_copied};
+ghost use Rattle.cell_values.specs.Addresses.{same_addr, IsOnSheet};
+ghost use Rattle.demand_spec.specs.Book.{cell_in};
+ghost use Rattle.demand_spec.specs.Listed.{content_of, contents, IsAfterAll, IsSoundAt};
 
 use crate::Cell;
 use cell_values::Addr;
@@ -27,7 +28,8 @@ impl Model for PlainBook {
 
     ghost coded = { Prim.hlevel (codes, expr_code) };
 
-    ghost use Rattle.demand_spec.specs.Listed.{contents, InOrder, AllSound};
+    ghost use Rattle.demand_spec.specs.Book.{cell_in};
+ghost use Rattle.demand_spec.specs.Listed.{contents, InOrder, AllSound};
 
     ghost view = { λ b. contents b.cells.items };
 
@@ -47,6 +49,13 @@ impl PlainBook {
         }
     }
 
+    /// The cell at an address, `None` where the book has none.
+    pub(crate) fn get(&self, at: Addr) -> Option<&Cell>
+        ensures { option_map content_of (option_copied result) ≡ cell_in self.now at }
+    {
+        find_cell(&self.cells, at)
+    }
+
     /// Appends a cell behind all others.
     #[tactic(auto, using(crate::proofs::Ordered::contents_push, crate::proofs::Ordered::order_push_contents, crate::proofs::Ordered::sound_push_contents))]
     pub fn push(&mut self, at: Addr, cell: Cell) -> Result<(), AllocError>
@@ -59,4 +68,22 @@ impl PlainBook {
         self.cells.push((at, cell))?;
         Ok(())
     }
+}
+
+/// The cell at an address, in a list of cells in order.
+fn find_cell(cells: &[(Addr, Cell)], at: Addr) -> Option<&Cell>
+    ensures { option_map content_of (option_copied result) ≡ cell_in (contents cells.now) at }
+{
+    for (address, cell) in cells {
+        if is_same(at, *address) {
+            return Some(cell);
+        }
+    }
+    None
+}
+
+fn is_same(a: Addr, b: Addr) -> bool
+    ensures { result ≡ same_addr a b }
+{
+    a.sheet == b.sheet && a.row == b.row && a.col == b.col
 }

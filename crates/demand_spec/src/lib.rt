@@ -4,6 +4,7 @@
 ghost use Rattle.demand_spec.specs.Laws.{AskGrows, RoundsEnd, NeedIsThere, NeedIsMentioned, StackCloses, Carried, LoopsAreFound, PendingIsClosed, LoopInClosed, ShowsSame};
 
 pub mod book;
+mod stage;
 pub mod view;
 
 use cell_values::{Addr, Int, TextId, Value};

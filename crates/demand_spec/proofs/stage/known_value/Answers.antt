@@ -1,0 +1,6 @@
+use Rattle.std.proofs.Common.{◌∙◌}
+use Rattle.demand_spec.proofs.Lookups.{lookup_is}
+use Rattle.demand_spec.proofs.stage.known_value.Goals as goal
+
+pub returns : goal.returns
+returns c = c.copied.ensures ∙ c.get.ensures.value ∙ lookup_is c.args.known.now.entries c.args.at

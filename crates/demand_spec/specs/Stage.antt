@@ -1,0 +1,31 @@
+-- What formulas are asked over: a book, and the values of formula cells that are known.
+use Rattle.std.specs.Prelude.{List}
+use Rattle.cell_values.specs.declared.address.Addr.{Addr}
+use Rattle.cell_values.specs.declared.values.Value.{Value}
+use Rattle.cell_values.specs.Texts.{Texts}
+use Rattle.formula_grammar.specs.Expr.{Expr}
+use Rattle.demand_spec.specs.declared.Asked.{Asked}
+use Rattle.demand_spec.specs.Book.{Book, Content, look, ask}
+use Rattle.demand_spec.specs.Listed.{InOrder, value_in, AreCellsOf, AreValuesOf}
+
+pub record Sight : Type 0 where
+  pub cells : List (Addr × Content)
+  pub texts : Texts
+  pub known : List (Addr × Value)
+
+-- the cells are in order, and all text numbers are the texts'
+pub record IsSight (s : Sight) : Type 0 where
+  pub in_order : InOrder s.cells
+  pub cells_of : AreCellsOf s.texts s.cells
+  pub known_of : AreValuesOf s.texts s.known
+
+abbrev pub book_of : Sight → Book
+book_of s = record { cells = s.cells; texts = s.texts }
+
+-- what a demand of a cell gives
+abbrev pub look_on : Sight → Addr → Asked
+look_on s a = look (book_of s) (value_in s.known) a
+
+-- what a formula gives
+abbrev pub ask_on : Sight → Addr → Expr → Asked
+ask_on s at t = ask (book_of s) (value_in s.known) at t
