@@ -3,7 +3,7 @@ use Rattle.std.specs.Prelude.{◌≡◌, ℕ, ◌+◌, ◌<◌, ◌≤◌, List,
 use Rattle.std.specs.Option.{option_map}
 use Rattle.byte_streams.specs.Faults.{HasRisen}
 use Rattle.byte_streams.specs.declared.faults.ReadFault.{ReadFault}
-use Rattle.byte_streams.specs.declared.faults.ReadFault.TheVariants.{Failed, TooLong, OutOfMemory}
+use Rattle.byte_streams.specs.declared.faults.ReadFault.TheVariants.{Failed, TooLong}
 
 -- what is told of a stream once these bytes are appended to it
 abbrev pub appended : Option (List ℕ) → List ℕ → Option (List ℕ)
@@ -31,18 +31,15 @@ AppendsPart bytes before now = (n : ℕ) × (n < length bytes) × (now ≡ appen
 
 -- what is left after a reading of everything that ended with this fault
 abbrev pub LeavesAfter : ReadFault → ℕ → Option (List ℕ) → Option (List ℕ) → Type 0
-LeavesAfter Failed limit before now = LosesAtMost limit before now
 LeavesAfter TooLong limit before now = now ≡ without_first (limit + 1) before
-LeavesAfter OutOfMemory limit before now = LosesAtMost limit before now
+LeavesAfter _ limit before now = LosesAtMost limit before now
 
 -- when a reading of everything may end with this fault: for TooLong, only where more than `limit` bytes were left
 abbrev pub Explains : ReadFault → ℕ → Option (List ℕ) → Type 0
-Explains Failed limit before = Unit {0}
 Explains TooLong limit before = IfSome before (λ told. limit < length told)
-Explains OutOfMemory limit before = Unit {0}
+Explains _ limit before = Unit {0}
 
 -- the count of faults after this fault: it rose with a failure of the device, and stayed with any other fault
 abbrev pub Counts : ReadFault → ℕ → ℕ → Type 0
 Counts Failed before now = HasRisen before now
-Counts TooLong before now = now ≡ before
-Counts OutOfMemory before now = now ≡ before
+Counts _ before now = now ≡ before

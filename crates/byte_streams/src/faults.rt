@@ -20,6 +20,19 @@ pub enum ReadFault {
     OutOfMemory,
 }
 
+/// Why a file could not be fetched.
+#[derive(Clone, Copy, Debug, PartialEq, Eq)]
+pub enum FetchFault {
+    /// The device failed.
+    Failed,
+    /// The file has more bytes than the limit allows.
+    TooLong,
+    /// There was no memory for the bytes.
+    OutOfMemory,
+    /// The folder has no file of this name.
+    NotThere,
+}
+
 impl fmt::Display for Failed {
     fn fmt<W: fmt::Write>(&self, f: &mut fmt::Formatter<W>) -> fmt::Result {
         write!(f, "the device failed")
@@ -57,5 +70,38 @@ impl From<AllocError> for ReadFault {
 
     fn from(_error: AllocError) -> ReadFault {
         ReadFault::OutOfMemory
+    }
+}
+
+impl fmt::Display for FetchFault {
+    fn fmt<W: fmt::Write>(&self, f: &mut fmt::Formatter<W>) -> fmt::Result {
+        match self {
+            FetchFault::Failed => write!(f, "the file could not be read"),
+            FetchFault::TooLong => write!(f, "the file has too many bytes"),
+            FetchFault::OutOfMemory => write!(f, "out of memory"),
+            FetchFault::NotThere => write!(f, "there is no such file"),
+        }
+    }
+}
+
+impl Error for FetchFault {}
+
+impl From<Failed> for FetchFault {
+    ghost use Rattle.byte_streams.specs.declared.faults.FetchFault.{FetchFault};
+
+    ghost from_gives = { λ _ fault. fault ≡ FetchFault.Failed };
+
+    fn from(_failed: Failed) -> FetchFault {
+        FetchFault::Failed
+    }
+}
+
+impl From<AllocError> for FetchFault {
+    ghost use Rattle.byte_streams.specs.declared.faults.FetchFault.{FetchFault};
+
+    ghost from_gives = { λ _ fault. fault ≡ FetchFault.OutOfMemory };
+
+    fn from(_error: AllocError) -> FetchFault {
+        FetchFault::OutOfMemory
     }
 }

@@ -5,18 +5,20 @@
 #![tactic(auto)]
 
 pub mod faults;
+pub mod folder;
 pub mod memory;
 pub mod plain;
 pub mod sink;
 pub mod source;
 pub mod standard;
 
-pub use faults::{Failed, ReadFault};
-pub use memory::{MemSink, MemSource};
-pub use plain::{PlainSink, PlainSource};
+pub use faults::{Failed, FetchFault, ReadFault};
+pub use folder::Folder;
+pub use memory::{MemFolder, MemSink, MemSource};
+pub use plain::{PlainFolder, PlainSink, PlainSource};
 pub use sink::{Sink, write_whole};
 pub use source::{Source, read_all};
-pub use standard::{StdSink, StdSource};
+pub use standard::{StdFolder, StdSink, StdSource};
 
 #[cfg(test)]
 mod tests;

@@ -1,10 +1,12 @@
 //! Streams in memory that fail at given calls, and move few bytes at a time.
-ghost use Rattle.std.specs.Prelude.{◌≡◌, ◌+◌, ◌-◌, ◌<◌, ◌≤◌, ◌⊎◌, ◌↔◌, [], ◌++◌, Some, length, take, drop, min, IsOk, IsErr, IfOk, OnOk, OnErr};
+ghost use Rattle.std.specs.Prelude.{◌≡◌, ◌+◌, ◌-◌, ◌<◌, ◌≤◌, ◌⊎◌, ◌↔◌, [], ◌++◌, Some, length, take, drop, min, IsOk, IsErr, IfOk, OnOk, OnErr, IsErrOf, MatchResult, vec_len};
 ghost use Rattle.byte_streams.specs.Faults.{next_count};
+ghost use Rattle.byte_streams.specs.Folders.{stored_files, file_named, ExplainsFetch, calls_after};
 ghost use Rattle.byte_streams.specs.Memory.{no_calls, IsDueToFail, after_call, after_fault, RoomFilled, IsFullFor};
 
-use crate::faults::Failed;
-use crate::plain::{PlainSource, Room};
+use crate::faults::{Failed, FetchFault};
+use crate::folder::Folder;
+use crate::plain::{PlainFolder, PlainSource, Room};
 use crate::sink::Sink;
 use crate::source::Source;
 use std::alloc::{AllocError, Global};
@@ -194,5 +196,54 @@ impl Sink for MemSink {
             return Err(self.script.fault());
         }
         Ok(count)
+    }
+}
+
+/// A folder in memory that fails at given calls.
+#[derive(Drop)]
+pub struct MemFolder {
+    files: PlainFolder,
+    script: Script,
+}
+
+impl Model for MemFolder {
+    ghost use Rattle.byte_streams.specs.Folders.{MemoryFiles};
+
+    ghost Value = { MemoryFiles };
+
+    ghost view = { λ folder. record { files = folder.files; calls = folder.script } };
+}
+
+impl MemFolder {
+    /// A folder of these files. Of two files with one name it has the first. A call whose number, counted
+    /// from 1, is in `fail` fails.
+    pub fn new(files: Vec<(String, Vec<u8>)>, fail: Vec<u64>) -> MemFolder
+        ensures { result ≡ record { files = stored_files files.items; calls = no_calls fail.items } }
+    {
+        MemFolder {
+            files: PlainFolder::new(files),
+            script: Script::new(fail),
+        }
+    }
+}
+
+impl Folder for MemFolder {
+    ghost files = { λ folder. Some folder.files };
+
+    ghost faults = { λ folder. folder.calls.faults };
+
+    fn fetch(&mut self, alloc: Global, name: &str, limit: usize) -> Result<Vec<u8>, FetchFault>
+        ensures found { IfOk result (λ bytes. file_named self.old.files name.now ≡ Some bytes.items) }
+        ensures within { IfOk result (λ bytes. vec_len bytes ≤ limit) }
+        ensures cause { MatchResult result (λ _. Unit {0}) (λ fault. ExplainsFetch fault limit name.now (Some self.old.files)) }
+
+        ensures fails { IsErrOf result FetchFault.Failed ↔ IsDueToFail self.old.calls }
+        ensures called { MatchResult result
+            (λ _. self.new ≡ record self.old { calls = after_call self.old.calls })
+            (λ fault. self.new ≡ record self.old { calls = calls_after fault self.old.calls }) }
+        ensures never_falls { self.old.calls.faults ≤ self.new.calls.faults }
+    {
+        self.script.call()?;
+        self.files.look_up(alloc, name, limit)
     }
 }

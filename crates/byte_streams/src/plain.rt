@@ -1,9 +1,12 @@
 //! Streams in memory that work as long as they have bytes or room.
-ghost use Rattle.std.specs.Prelude.{◌≡◌, ◌+◌, ◌-◌, ◌<◌, ◌≤◌, ◌↔◌, [], ◌++◌, Some, length, take, drop, min, IsOk, IsErr, IfOk, OnErr};
+ghost use Rattle.std.specs.Option.{option_map};
+ghost use Rattle.std.specs.Prelude.{◌≡◌, ◌≢◌, ◌+◌, ◌-◌, ◌<◌, ◌≤◌, ◌↔◌, [], ◌++◌, Some, length, take, drop, min, IsOk, IsErr, IfOk, IfSome, OnErr, IsErrOf, MatchResult, None, vec_len};
 ghost use Rattle.byte_streams.specs.Faults.{next_count};
 ghost use Rattle.byte_streams.specs.Memory.{RoomFilled, IsFullFor};
+ghost use Rattle.byte_streams.specs.Folders.{stored_files, file_named, ExplainsFetch};
 
-use crate::faults::Failed;
+use crate::faults::{Failed, FetchFault};
+use crate::folder::Folder;
 use crate::sink::Sink;
 use crate::source::Source;
 use std::alloc::{AllocError, Global};
@@ -160,5 +163,76 @@ impl Sink for PlainSink {
             return Err(Failed);
         }
         Ok(count)
+    }
+}
+
+/// A folder in memory that never fails. It is seen as its files.
+#[derive(Drop)]
+pub struct PlainFolder {
+    files: Vec<(String, Vec<u8>)>,
+}
+
+impl Model for PlainFolder {
+    ghost use Rattle.std.specs.Prelude.{List};
+    ghost use Rattle.byte_streams.specs.Folders.{StoredFile, stored_files};
+
+    ghost Value = { List StoredFile };
+
+    ghost view = { λ folder. stored_files folder.files.items };
+}
+
+impl PlainFolder {
+    /// A folder of these files. Of two files with one name it has the first.
+    pub fn new(files: Vec<(String, Vec<u8>)>) -> PlainFolder
+        ensures { result ≡ stored_files files.items }
+    {
+        PlainFolder { files }
+    }
+
+    // The bytes of the file of this name, if there are at most `limit`.
+    pub(crate) fn look_up(
+        &self,
+        alloc: Global,
+        name: &str,
+        limit: usize,
+    ) -> Result<Vec<u8>, FetchFault>
+        ensures found { IfOk result (λ bytes. file_named self.now name.now ≡ Some bytes.items) }
+        ensures within { IfOk result (λ bytes. vec_len bytes ≤ limit) }
+        ensures cause { MatchResult result (λ _. Unit {0}) (λ fault. ExplainsFetch fault limit name.now (Some self.now)) }
+        ensures works { result ≢ Err FetchFault.Failed }
+    {
+        match bytes_of(self.files.as_slice(), name) {
+            None => Err(FetchFault::NotThere),
+            Some(bytes) if limit < bytes.len() => Err(FetchFault::TooLong),
+            Some(bytes) => Ok(Vec::from_slice(alloc, bytes)?),
+        }
+    }
+}
+
+// The bytes of the first file of this name.
+fn bytes_of<'a>(files: &'a [(String, Vec<u8>)], name: &str) -> Option<&'a [u8]>
+    ensures { option_map (λ bytes. bytes.now) result ≡ file_named (stored_files files.now) name.now }
+{
+    for file in files {
+        if file.0.as_str() == name {
+            return Some(file.1.as_slice());
+        }
+    }
+    None
+}
+
+impl Folder for PlainFolder {
+    ghost files = { λ folder. Some folder };
+
+    ghost faults = { λ _. 0 };
+
+    fn fetch(&mut self, alloc: Global, name: &str, limit: usize) -> Result<Vec<u8>, FetchFault>
+        ensures found { IfOk result (λ bytes. file_named self.old name.now ≡ Some bytes.items) }
+        ensures within { IfOk result (λ bytes. vec_len bytes ≤ limit) }
+        ensures cause { MatchResult result (λ _. Unit {0}) (λ fault. ExplainsFetch fault limit name.now (Some self.old)) }
+        ensures works { result ≢ Err FetchFault.Failed }
+        ensures same { self.new ≡ self.old }
+    {
+        self.look_up(alloc, name, limit)
     }
 }

@@ -1,12 +1,17 @@
-//! Sources and sinks over the standard streams, or over any other reader and writer.
-ghost use Rattle.std.specs.Prelude.{◌≡◌, ◌+◌, ◌<◌, ◌≤◌, None, length, is_ok, IfOk, if◌then◌else◌};
+//! Sources, sinks and a folder over the standard streams and files, or over any other reader and writer.
+ghost use Rattle.std.specs.Prelude.{◌≡◌, ◌+◌, ◌<◌, ◌≤◌, None, length, vec_len, is_ok, IfOk, IsErrOf, if◌then◌else◌, ◌≢◌, MatchResult};
 ghost use Rattle.byte_streams.specs.Faults.{next_count};
+ghost use Rattle.byte_streams.specs.Folders.{counted_by};
 
-use crate::faults::Failed;
+use crate::faults::{Failed, FetchFault, ReadFault};
+use crate::folder::Folder;
 use crate::sink::Sink;
-use crate::source::Source;
+use crate::source::{Source, read_all};
+use std::alloc::Global;
+use std::fs;
 use std::io::{Read, Write};
 use std::marker::Model;
+use std::rt::Files;
 
 /// A source over a reader, such as the standard input. It tells none of its bytes, and is seen as its
 /// count of faults, which counts the reader's errors.
@@ -95,6 +100,65 @@ impl<W: Write> Sink for StdSink<W> {
                 self.faults = self.faults.saturating_add(1);
                 Err(Failed)
             }
+        }
+    }
+}
+
+/// The files that the runtime opens by their paths. It does not tell them, and is seen as its count of
+/// faults. A fault is that a file cannot be opened, as where there is none of this name, or an error while
+/// it is read.
+#[derive(Drop)]
+pub struct StdFolder<R> {
+    files: R,
+    faults: u64,
+}
+
+impl<R> Model for StdFolder<R> {
+    ghost use Rattle.std.specs.Prelude.{ℕ};
+
+    ghost Value = { ℕ };
+
+    ghost view = { λ folder. folder.faults };
+}
+
+impl<R: Files> StdFolder<R> {
+    /// A folder of all files that the runtime opens.
+    pub fn new(files: R) -> StdFolder<R>
+        ensures { result ≡ 0 }
+    {
+        StdFolder { files, faults: 0 }
+    }
+
+    // Counts a fault.
+    fn fault(&mut self) -> FetchFault
+        ensures answer { result ≡ FetchFault.Failed }
+        ensures counted { self.new ≡ next_count self.old }
+        ensures never_falls { self.old ≤ self.new }
+    {
+        self.faults = self.faults.saturating_add(1);
+        FetchFault::Failed
+    }
+}
+
+impl<R: Files> Folder for StdFolder<R> {
+    ghost files = { λ _. None };
+
+    ghost faults = { λ folder. folder };
+
+    fn fetch(&mut self, alloc: Global, name: &str, limit: usize) -> Result<Vec<u8>, FetchFault>
+        ensures within { IfOk result (λ bytes. vec_len bytes ≤ limit) }
+        ensures counted { MatchResult result (λ _. self.new ≡ self.old) (λ fault. self.new ≡ counted_by fault self.old) }
+        ensures never_falls { self.old ≤ self.new }
+        ensures there { result ≢ Err FetchFault.NotThere }
+    {
+        let Ok(file) = fs::open(&self.files, name) else {
+            return Err(self.fault());
+        };
+        match read_all(alloc, &mut StdSource::new(file), limit) {
+            Ok(bytes) => Ok(bytes),
+            Err(ReadFault::Failed) => Err(self.fault()),
+            Err(ReadFault::TooLong) => Err(FetchFault::TooLong),
+            Err(ReadFault::OutOfMemory) => Err(FetchFault::OutOfMemory),
         }
     }
 }

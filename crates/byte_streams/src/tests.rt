@@ -1,11 +1,11 @@
 use crate::{
-    Failed, MemSink, MemSource, PlainSink, PlainSource, ReadFault, Sink, Source, StdSink,
-    StdSource, read_all, write_whole,
+    Failed, FetchFault, Folder, MemFolder, MemSink, MemSource, PlainFolder, PlainSink, PlainSource,
+    ReadFault, Sink, Source, StdFolder, StdSink, StdSource, read_all, write_whole,
 };
 use std::alloc::{AllocError, Global};
-use std::io;
 use std::io::{Read, Write};
 use std::test::Fail;
+use std::{fs, io};
 
 fn source_of(alloc: Global, text: &str) -> Result<PlainSource, AllocError> {
     Ok(PlainSource::new(Vec::from_slice(alloc, text.as_bytes())?))
@@ -137,5 +137,53 @@ fn adapts_a_writer(rt: HostRuntime) -> Result<(), Fail> {
     assert_eq!(rt; full.write(b"abc"), Ok(2));
     assert_eq!(rt; full.write(b"c"), Err(Failed));
     assert_eq!(rt; full.write(b""), Ok(0));
+    Ok(())
+}
+
+fn one_file(alloc: Global, name: &str, text: &str) -> Result<Vec<(String, Vec<u8>)>, AllocError> {
+    let mut files = Vec::new(alloc);
+    let name = String::from_str(alloc, name)?;
+    let bytes = Vec::from_slice(alloc, text.as_bytes())?;
+    files.push((name, bytes))?;
+    Ok(files)
+}
+
+#[test]
+fn fetches_a_file_by_its_name(rt: HostRuntime) -> Result<(), Fail> {
+    let fail = vec![in rt.alloc(); 4u64]?;
+    let mut folder = MemFolder::new(one_file(rt.alloc(), "a", "x")?, fail);
+    let bytes = folder.fetch(rt.alloc(), "a", 1)?;
+    assert_eq!(rt; bytes.as_slice(), b"x".as_slice());
+    for (name, limit, want) in [
+        ("a", 0, FetchFault::TooLong),
+        ("b", 1, FetchFault::NotThere),
+        ("a", 1, FetchFault::Failed),
+    ] {
+        match folder.fetch(rt.alloc(), name, limit) {
+            Err(fault) => assert_eq!(rt; fault, want),
+            Ok(_) => assert!(rt; false, "at {name} and {limit}"),
+        }
+    }
+
+    let mut plain = PlainFolder::new(one_file(rt.alloc(), "a", "x")?);
+    let bytes = plain.fetch(rt.alloc(), "a", 1)?;
+    assert_eq!(rt; bytes.as_slice(), b"x".as_slice());
+    Ok(())
+}
+
+#[test]
+fn fetches_real_files(rt: HostRuntime) -> Result<(), Fail> {
+    let name = "byte_streams_test.txt";
+    fs::write(&rt, name, b"xyz".as_slice())?;
+    let mut folder = StdFolder::new(rt.clone()?);
+    let bytes = folder.fetch(rt.alloc(), name, 3)?;
+    let too_long = folder.fetch(rt.alloc(), name, 2).err();
+    let no_file = folder.fetch(rt.alloc(), ".", 3).err();
+    fs::remove_file(&rt, name)?;
+    let not_there = folder.fetch(rt.alloc(), name, 3).err();
+    assert_eq!(rt; bytes.as_slice(), b"xyz".as_slice());
+    assert_eq!(rt; too_long, Some(FetchFault::TooLong));
+    assert_eq!(rt; no_file, Some(FetchFault::Failed));
+    assert_eq!(rt; not_there, Some(FetchFault::Failed));
     Ok(())
 }
