@@ -102,6 +102,8 @@ impl Source for MemSource {
 
     ghost faults = { λ source. source.calls.faults };
 
+    ghost calls = { λ source. source.calls.made };
+
     fn read(&mut self, buf: &mut [u8]) -> Result<usize, Failed>
         ensures fails { IsErr result ↔ IsDueToFail self.old.calls }
         ensures amount { IfOk result (λ n. n ≡ min (min (length buf.old) self.old.most) (length self.old.left)) }
@@ -177,6 +179,8 @@ impl Sink for MemSink {
     ghost written = { λ sink. Some sink.filled.written };
 
     ghost faults = { λ sink. sink.calls.faults };
+
+    ghost calls = { λ sink. sink.calls.made };
 
     fn write(&mut self, piece: &[u8]) -> Result<usize, Failed>
         ensures fails { IsErr result ↔ (IsDueToFail self.old.calls ⊎ IsFullFor self.old.filled piece.now) }

@@ -56,6 +56,8 @@ impl Source for PlainSource {
 
     ghost faults = { λ _. 0 };
 
+    ghost calls = { λ _. 0 };
+
     fn read(&mut self, buf: &mut [u8]) -> Result<usize, Failed>
         ensures succeeds { IsOk result }
         ensures amount { IfOk result (λ n. n ≡ min (length buf.old) (length self.old)) }
@@ -146,6 +148,8 @@ impl Sink for PlainSink {
     ghost written = { λ sink. Some sink.filled.written };
 
     ghost faults = { λ sink. sink.faults };
+
+    ghost calls = { λ _. 0 };
 
     fn write(&mut self, piece: &[u8]) -> Result<usize, Failed>
         ensures fails { IsErr result ↔ (IsFullFor self.old.filled piece.now) }

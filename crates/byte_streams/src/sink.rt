@@ -1,5 +1,5 @@
 //! What bytes are written to.
-ghost use Rattle.std.specs.Prelude.{◌≡◌, ℕ, ◌<◌, ◌≤◌, List, Option, length, take, IfOk, OnOk, OnErr};
+ghost use Rattle.std.specs.Prelude.{◌≡◌, ℕ, ◌+◌, ◌<◌, ◌≤◌, List, Option, length, take, IfOk, OnOk, OnErr};
 ghost use Rattle.byte_streams.specs.Faults.{HasRisen};
 ghost use Rattle.byte_streams.specs.Streams.{appended, AppendsPart};
 
@@ -8,11 +8,14 @@ use crate::faults::Failed;
 /// A device that takes bytes in order, and may fail.
 ///
 /// `written` tells the bytes that it has got, or nothing. `faults` is its count of faults, which never
-/// falls. Who tells goes on telling, and who tells nothing goes on telling nothing.
+/// falls. `calls` counts its writes, where it counts them. Who tells goes on telling, and who tells
+/// nothing goes on telling nothing.
 pub trait Sink {
     ghost written: { Self → Option (List ℕ) };
 
     ghost faults: { Self → ℕ };
+
+    ghost calls: { Self → ℕ };
 
     /// Appends some of the first bytes of `piece`, and answers how many: at least one, where `piece`
     /// is not empty.
@@ -26,7 +29,8 @@ pub trait Sink {
 
         ensures failed { OnErr result (HasRisen (faults self.old) (faults self.new)) }
         ensures steady { OnOk result (faults self.new ≡ faults self.old) }
-        ensures never_falls { faults self.old ≤ faults self.new };
+        ensures never_falls { faults self.old ≤ faults self.new }
+        ensures one_call { calls self.new ≤ calls self.old + 1 };
 }
 
 /// Writes all of the bytes, in as many writes as that takes: at most one for each byte.
@@ -39,6 +43,7 @@ pub fn write_whole<K: Sink>(sink: &mut K, bytes: &[u8]) -> Result<(), Failed>
     ensures failed { OnErr result (HasRisen (K.faults sink.old) (K.faults sink.new)) }
     ensures steady { OnOk result (K.faults sink.new ≡ K.faults sink.old) }
     ensures never_falls { K.faults sink.old ≤ K.faults sink.new }
+    ensures few_writes { K.calls sink.new ≤ K.calls sink.old + length bytes.now }
 {
     let mut at = 0;
     while at < bytes.len() {

@@ -1,5 +1,5 @@
 //! What bytes are read from.
-ghost use Rattle.std.specs.Prelude.{◌≡◌, ℕ, ◌≤◌, List, [], Option, length, vec_len, IfSome, IfOk, OnOk, OnErr, MatchResult};
+ghost use Rattle.std.specs.Prelude.{◌≡◌, ℕ, ◌+◌, ◌≤◌, List, [], Option, length, vec_len, IfSome, IfOk, OnOk, OnErr, MatchResult};
 ghost use Rattle.std.specs.Option.{option_map};
 ghost use Rattle.byte_streams.specs.Faults.{HasRisen};
 ghost use Rattle.byte_streams.specs.Streams.{MovesFirst, without_first, LeavesAfter, Explains, Counts};
@@ -13,11 +13,14 @@ const CHUNK: usize = 8192;
 /// A device that gives bytes in order, and may fail.
 ///
 /// `left` tells the bytes that it has left, or nothing. `faults` is its count of faults, which never
-/// falls. Who tells goes on telling, and who tells nothing goes on telling nothing.
+/// falls. `calls` counts its reads, where it counts them. Who tells goes on telling, and who tells
+/// nothing goes on telling nothing.
 pub trait Source {
     ghost left: { Self → Option (List ℕ) };
 
     ghost faults: { Self → ℕ };
+
+    ghost calls: { Self → ℕ };
 
     /// Moves some of the bytes that are left to the front of `buf`, and answers how many.
     ///
@@ -33,13 +36,14 @@ pub trait Source {
 
         ensures failed { OnErr result (HasRisen (faults self.old) (faults self.new)) }
         ensures steady { OnOk result (faults self.new ≡ faults self.old) }
-        ensures never_falls { faults self.old ≤ faults self.new };
+        ensures never_falls { faults self.old ≤ faults self.new }
+        ensures one_call { calls self.new ≤ calls self.old + 1 };
 }
 
 /// Reads to the end, if there are at most `limit` bytes.
 ///
-/// It makes at most `limit + 1` reads, since each but the last gives a byte, and takes at most
-/// `limit + 1` bytes. A read that fails ends it. What was taken before a fault is lost.
+/// It makes at most `limit + 1` reads and takes at most `limit + 1` bytes. A read that fails ends it.
+/// What was taken before a fault is lost.
 pub fn read_all<S: Source>(
     alloc: Global,
     source: &mut S,
@@ -56,6 +60,7 @@ pub fn read_all<S: Source>(
     ensures counted { MatchResult result (λ _. S.faults source.new ≡ S.faults source.old)
         (λ fault. Counts fault (S.faults source.old) (S.faults source.new)) }
     ensures never_falls { S.faults source.old ≤ S.faults source.new }
+    ensures few_reads { S.calls source.new ≤ S.calls source.old + limit + 1 }
 {
     let mut bytes = Vec::new(alloc);
     let mut chunk = [0; CHUNK];

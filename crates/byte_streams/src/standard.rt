@@ -43,6 +43,8 @@ impl<R: Read> Source for StdSource<R> {
 
     ghost faults = { λ source. source };
 
+    ghost calls = { λ _. 0 };
+
     fn read(&mut self, buf: &mut [u8]) -> Result<usize, Failed>
         ensures within { IfOk result (λ n. n ≤ length buf.old) }
         ensures counted { self.new ≡ (if is_ok result then self.old else next_count self.old) }
@@ -87,6 +89,8 @@ impl<W: Write> Sink for StdSink<W> {
     ghost written = { λ _. None };
 
     ghost faults = { λ sink. sink };
+
+    ghost calls = { λ _. 0 };
 
     fn write(&mut self, piece: &[u8]) -> Result<usize, Failed>
         ensures within { IfOk result (λ n. n ≤ length piece.now) }

@@ -8,4 +8,5 @@ loop-at-preserved g c = record {
   within = grind (arith, common_steps);
   written = appended-again _ _ _ _ _ _ _ c.loop-at.invariant.written c.in_ok-at.ensures.appended (grind (arith, common_steps));
   steady = search rules;
+  few = grind (arith, common_steps);
 }
