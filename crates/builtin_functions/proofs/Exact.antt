@@ -74,6 +74,10 @@ non_zero_bits (pos zero) f h = absurd (h refl)
 non_zero_bits (pos (suc n)) f h = omega arith
 non_zero_bits (negsuc n) f h = omega (arith, f.sfits)
 
+pub quotient_not_by_zero : (x y : ℤ) → y ≢ pos 0 → quotient x y ≡ number (int_div x y)
+unfolding quotient
+quotient_not_by_zero x y h = ap (λ b. if b then Value.Error Code.Div else number (int_div x y)) (not_zero y h)
+
 pub quotient_is : (x y : ℤ) (r : Option ℤ) → Held y → y ≢ pos 0 → SomeIff r (CanDivide w64 x y) (int_div x y) → or_num r ≡ quotient x y
 unfolding quotient
 quotient_is x y r g h k = number_is (int_div x y) r (exactly r k) ∙ sym (ap (λ b. if b then Value.Error Code.Div else number (int_div x y)) (not_zero y h))

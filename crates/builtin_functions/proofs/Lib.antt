@@ -1,2 +1,5 @@
 pub mod Exact
 pub mod Walks
+pub mod OrderLaws
+pub mod DivisionLaws
+pub mod WalkLaws

@@ -19,7 +19,7 @@ abbrev pub lesser : ℤ → ℤ → ℤ
 lesser x y = cond (int_lt y x) y x
 
 abbrev pub greater : ℤ → ℤ → ℤ
-greater x y = cond (int_lt x y) y x
+greater x y = cond (int_lt y x) x y
 
 abbrev pub best : (ℤ → ℤ → ℤ) → Total → ℤ → Total
 best choose (Some x) n = Some (choose x n)

@@ -4,6 +4,7 @@
 mod arithmetic;
 mod comparisons;
 pub mod folds;
+pub mod laws;
 pub mod operators;
 
 pub use folds::{Fold, FoldKind, Go};

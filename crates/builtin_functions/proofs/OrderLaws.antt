@@ -1,0 +1,62 @@
+-- The order of two values, turned round.
+use Rattle.std.proofs.Common.{◌≡◌, Bool, true, false, pos, Option, Some, None, [], refl, ap, ◌∙◌, option_map}
+use Rattle.std.specs.Ordering.{ordering_reverse, is_lt, is_gt, is_le, is_ge}
+use Rattle.std.specs.declared.cmp.Ordering.{Ordering}
+use Rattle.std.specs.declared.cmp.Ordering.TheVariants.{Less, Equal, Greater}
+use Rattle.std.proofs.lemmas.Cmp.{int_cmp_total, nat_list_cmp_total}
+use Rattle.cell_values.specs.declared.values.Value.{Value}
+use Rattle.cell_values.specs.Texts.{Texts, text_at}
+use Rattle.builtin_functions.specs.Tables.{order, bool_order, same, equals, ordered}
+use Rattle.builtin_functions.specs.Laws.{OrderTurns}
+
+bool_turns : (x y : Bool) → bool_order x y ≡ ordering_reverse (bool_order y x)
+bool_turns true true = refl
+bool_turns true false = refl
+bool_turns false true = refl
+bool_turns false false = refl
+
+pub order_turns : (ts : Texts) (a b : Value) → order ts a b ≡ option_map ordering_reverse (order ts b a)
+unfolding order
+order_turns ts (Value.Number x) (Value.Number y) = ap Some (int_cmp_total.antisymm x y)
+order_turns ts (Value.Number x) Value.Blank = ap Some (int_cmp_total.antisymm x (pos 0))
+order_turns ts Value.Blank (Value.Number y) = ap Some (int_cmp_total.antisymm (pos 0) y)
+order_turns ts (Value.Text s) (Value.Text t) = ap Some (nat_list_cmp_total.antisymm (text_at ts s) (text_at ts t))
+order_turns ts (Value.Text s) Value.Blank = ap Some (nat_list_cmp_total.antisymm (text_at ts s) [])
+order_turns ts Value.Blank (Value.Text t) = ap Some (nat_list_cmp_total.antisymm [] (text_at ts t))
+order_turns ts (Value.Bool x) (Value.Bool y) = ap Some (bool_turns x y)
+order_turns ts (Value.Bool x) Value.Blank = ap Some (bool_turns x false)
+order_turns ts Value.Blank (Value.Bool y) = ap Some (bool_turns false y)
+order_turns ts Value.Blank Value.Blank = refl
+order_turns ts (Value.Error e) (Value.Number y) = refl
+order_turns ts (Value.Error e) (Value.Text t) = refl
+order_turns ts (Value.Error e) (Value.Bool y) = refl
+order_turns ts (Value.Error e) Value.Blank = refl
+order_turns ts (Value.Error e) (Value.Error d) = refl
+order_turns ts _ _ = refl
+
+equals_turned : (o : Option Ordering) → equals (option_map ordering_reverse o) ≡ equals o
+equals_turned (Some Less) = refl
+equals_turned (Some Equal) = refl
+equals_turned (Some Greater) = refl
+equals_turned None = refl
+
+less_turned : (o : Option Ordering) → ordered is_lt (option_map ordering_reverse o) ≡ ordered is_gt o
+less_turned (Some Less) = refl
+less_turned (Some Equal) = refl
+less_turned (Some Greater) = refl
+less_turned None = refl
+
+less_or_equal_turned : (o : Option Ordering) → ordered is_le (option_map ordering_reverse o) ≡ ordered is_ge o
+less_or_equal_turned (Some Less) = refl
+less_or_equal_turned (Some Equal) = refl
+less_or_equal_turned (Some Greater) = refl
+less_or_equal_turned None = refl
+
+pub same_is_symmetric : (ts : Texts) (a b : Value) → same ts a b ≡ same ts b a
+same_is_symmetric ts a b = ap equals (order_turns ts a b) ∙ equals_turned (order ts b a)
+
+pub comparisons_turn : (ts : Texts) (a b : Value) → OrderTurns ts a b
+comparisons_turn ts a b = record {
+  less = ap (ordered is_lt) (order_turns ts a b) ∙ less_turned (order ts b a);
+  less_or_equal = ap (ordered is_le) (order_turns ts a b) ∙ less_or_equal_turned (order ts b a);
+}
