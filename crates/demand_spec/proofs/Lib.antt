@@ -7,3 +7,4 @@ pub mod Local
 pub mod Walks
 pub mod Ordered
 pub mod Lookups
+pub mod Asks

@@ -5,3 +5,6 @@ pub mod TextNumbers
 pub mod Laws
 pub mod Listed
 pub mod Stage
+pub mod Asks
+pub mod Recursion
+pub mod Places

@@ -29,13 +29,13 @@ impl Model for PlainBook {
     ghost coded = { Prim.hlevel (codes, expr_code) };
 
     ghost use Rattle.demand_spec.specs.Book.{cell_in};
-ghost use Rattle.demand_spec.specs.Listed.{contents, InOrder, AllSound};
+    ghost use Rattle.demand_spec.specs.Listed.{contents, InOrder, AllSound};
 
     ghost view = { λ b. contents b.cells.items };
 
     ghost invariant = { λ b. record {
-        in_order : InOrder (contents b.cells.items);
-        sound : AllSound (contents b.cells.items);
+      in_order : InOrder (contents b.cells.items);
+      sound : AllSound (contents b.cells.items);
     } };
 }
 

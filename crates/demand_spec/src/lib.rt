@@ -4,12 +4,14 @@
 ghost use Rattle.demand_spec.specs.Laws.{AskGrows, RoundsEnd, NeedIsThere, NeedIsMentioned, StackCloses, Carried, LoopsAreFound, PendingIsClosed, LoopInClosed, ShowsSame};
 
 pub mod book;
+mod ends;
+mod places;
 mod stage;
 pub mod view;
 
+pub use book::PlainBook;
 use cell_values::{Addr, Int, TextId, Value};
 use formula_grammar::Tree;
-pub use book::PlainBook;
 pub use view::{BookView, Results};
 
 /// What a cell holds.
