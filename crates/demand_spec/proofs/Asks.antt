@@ -19,9 +19,10 @@ use Rattle.builtin_functions.specs.Folds.{Total, taken}
 use Rattle.demand_spec.specs.declared.Asked.{Asked}
 use Rattle.demand_spec.specs.declared.Asked.TheVariants.{Val, Needs}
 use Rattle.demand_spec.specs.Plan.{Plan, Give, Demand, and_then, after, run}
-use Rattle.demand_spec.specs.Formula.{fails, unless_error, value_of, or_fail, condition_of, if_number, if_cells, if_up_to, and_plan, or_plan, from_one, chosen, go_on, fold_cells, fold_argument, fold_plan, is_found, search_plan, op_of, sign_of, plan, arguments}
+use Rattle.demand_spec.specs.Formula.{fails, unless_error, value_of, or_fail, condition_of, if_number, if_cells, if_up_to, and_plan, or_plan, from_one, chosen, go_on, fold_cells, fold_argument, fold_plan, is_found, search_plan, demand_of, op_of, sign_of, plan, arguments}
 use Rattle.demand_spec.specs.Book.{Book, Known, look, ask}
 use Rattle.demand_spec.specs.Asks.{on_with, and_on, any_value, value_or_end, or_fails, condition_or_end, number_or_end, cells_or_end, up_to_or_end, found_or_end, if_error, ask_value_at, ask_chosen, fold_looks, fold_one, ask_fold, search_looks}
+use Rattle.demand_spec.specs.Recursion.{LiteralGives, ReferenceGives}
 use Rattle.demand_spec.proofs.Plans.{run-and_then}
 
 -- the parts of plans
@@ -75,6 +76,12 @@ run-demand l a = go (l a)
     go (Needs x) = refl
 
 -- the formulas
+
+pub literal_gives : LiteralGives
+literal_gives b e at = (λ n. refl, λ t. refl, λ q. refl, refl)
+
+pub reference_gives : ReferenceGives
+reference_gives b e at r = (λ a h. ap (λ o. run (look b e) (demand_of o)) h ∙ run-demand (look b e) a, λ h. ap (λ o. run (look b e) (demand_of o)) h)
 
 pub ask_unary : (b : Book) (e : Known) (at : Addr) (s : Sign) (t : Expr) → ask b e at (Unary s t) ≡ on_with (value_or_end (ask b e at t)) (λ x. Val (sign_table (sign_of s) x))
 ask_unary b e at s t = run-value_of (look b e) (plan b.texts at t) (λ x. Give (sign_table (sign_of s) x))

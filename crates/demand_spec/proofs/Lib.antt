@@ -8,3 +8,5 @@ pub mod Walks
 pub mod Ordered
 pub mod Lookups
 pub mod Asks
+pub mod Texts
+pub mod Areas

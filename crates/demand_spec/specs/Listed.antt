@@ -8,9 +8,10 @@ use Rattle.cell_values.specs.Addresses.{same_addr, IsBefore, IsOnSheet}
 use Rattle.cell_values.specs.Texts.{Texts, IsTextOf}
 use Rattle.formula_grammar.specs.Expr.{Expr, expr_of}
 use Rattle.formula_grammar.specs.Sound.{IsSound}
+use Rattle.builtin_functions.specs.Tables.{IsValueOf}
 use Rattle.demand_spec.specs.declared.Cell.{Cell}
 use Rattle.demand_spec.specs.Book.{Book, Content, Known, formulas, shown}
-use Rattle.demand_spec.specs.TextNumbers.{TextBelow, TextsBelow}
+use Rattle.demand_spec.specs.TextNumbers.{TextsBelow}
 
 abbrev pub content_of : Cell → Content
 content_of (Cell.Number n) = Content.Number n
@@ -75,4 +76,4 @@ AreCellsOf ts (c ∷ rest) = IsContentOf ts c.1 × AreCellsOf ts rest
 
 abbrev pub AreValuesOf : Texts → List (Addr × Value) → Type 0
 AreValuesOf ts [] = Unit {0}
-AreValuesOf ts (k ∷ rest) = TextBelow (λ i. i < length ts) k.1 × AreValuesOf ts rest
+AreValuesOf ts (k ∷ rest) = IsValueOf ts k.1 × AreValuesOf ts rest

@@ -1,13 +1,17 @@
 -- What asking a formula is, from asking its parts, left to right: the formulas as a plain recursion.
-use Rattle.std.specs.Prelude.{◌≡◌, suc, pos, not, cond, false, true, None}
+use Rattle.std.specs.Prelude.{◌≡◌, ℤ, suc, pos, Bool, not, cond, false, true, Some, None}
 use Rattle.cell_values.specs.declared.address.Addr.{Addr}
+use Rattle.cell_values.specs.declared.interned.TextId.{TextId}
+use Rattle.cell_values.specs.declared.values.Code.{Code}
 use Rattle.cell_values.specs.declared.values.Value.{Value}
 use Rattle.cell_values.specs.Areas.{height, width, cell_of, row_of, column_of, walk}
 use Rattle.formula_grammar.specs.declared.tree.Fun.{Fun}
 use Rattle.formula_grammar.specs.declared.tree.Op.{Op}
+use Rattle.formula_grammar.specs.declared.tree.Reference.{Reference}
 use Rattle.formula_grammar.specs.declared.tree.Sign.{Sign}
-use Rattle.formula_grammar.specs.Expr.{Expr, Exprs, Unary, Binary, Call, End, More}
+use Rattle.formula_grammar.specs.Expr.{Expr, Exprs, Number, Text, Truth, Ref, RefError, Unary, Binary, Call, End, More}
 use Rattle.formula_grammar.specs.Mentions.{place_of}
+use Rattle.formula_grammar.specs.References.{resolve}
 use Rattle.builtin_functions.specs.declared.operators.Op2.{Op2}
 use Rattle.builtin_functions.specs.declared.operators.Sign2.{Sign2}
 use Rattle.builtin_functions.specs.declared.folds.FoldKind.{FoldKind}
@@ -17,6 +21,20 @@ use Rattle.demand_spec.specs.declared.Asked.TheVariants.{Val}
 use Rattle.demand_spec.specs.Formula.{from_one, op_of, sign_of}
 use Rattle.demand_spec.specs.Book.{Book, Known, look, ask}
 use Rattle.demand_spec.specs.Asks.{on_with, any_value, value_or_end, condition_or_end, number_or_end, cells_or_end, up_to_or_end, found_or_end, if_error, ask_chosen, fold_one, ask_fold, search_looks}
+
+-- a literal is its value
+abbrev pub LiteralGives : Type 0
+LiteralGives = (b : Book) (e : Known) (at : Addr) →
+    ((n : ℤ) → ask b e at (Number n) ≡ Val (Value.Number n))
+    × ((t : TextId) → ask b e at (Text t) ≡ Val (Value.Text t))
+    × ((q : Bool) → ask b e at (Truth q) ≡ Val (Value.Bool q))
+    × (ask b e at RefError ≡ Val (Value.Error Code.Ref))
+
+-- a reference demands its cell; outside the sheet it is `#REF!`
+abbrev pub ReferenceGives : Type 0
+ReferenceGives = (b : Book) (e : Known) (at : Addr) (r : Reference) →
+    ((a : Addr) → resolve at r ≡ Some a → ask b e at (Ref r) ≡ look b e a)
+    × (resolve at r ≡ None → ask b e at (Ref r) ≡ Val (Value.Error Code.Ref))
 
 -- a sign
 abbrev pub SignGives : Type 0
@@ -50,7 +68,12 @@ ShortIfGives = (b : Book) (e : Known) (at : Addr) (t u : Expr) → ask b e at (C
 abbrev pub AndGives : Type 0
 AndGives = (b : Book) (e : Known) (at : Addr) (t : Expr) (rest : Exprs) → ask b e at (Call Fun.And (More t rest)) ≡ on_with (condition_or_end (ask b e at t)) (λ c. cond c (ask b e at (Call Fun.And rest)) (Val (Value.Bool false)))
 
--- OR
+-- AND of no argument, and OR
+abbrev pub NoneGive : Type 0
+NoneGive = (b : Book) (e : Known) (at : Addr) →
+    (ask b e at (Call Fun.And End) ≡ Val (Value.Bool true)) × (ask b e at (Call Fun.Or End) ≡ Val (Value.Bool false))
+
+-- OR: its first argument, and then the same of the others
 abbrev pub OrGives : Type 0
 OrGives = (b : Book) (e : Known) (at : Addr) (t : Expr) (rest : Exprs) → ask b e at (Call Fun.Or (More t rest)) ≡ on_with (condition_or_end (ask b e at t)) (λ c. cond c (Val (Value.Bool true)) (ask b e at (Call Fun.Or rest)))
 
@@ -89,3 +112,12 @@ VLookupGives = (b : Book) (e : Known) (at : Addr) (key range col : Expr) (rest :
 -- HLOOKUP
 abbrev pub HLookupGives : Type 0
 HLookupGives = (b : Book) (e : Known) (at : Addr) (key range row : Expr) (rest : Exprs) → ask b e at (Call Fun.HLookup (More key (More range (More row rest)))) ≡ on_with (value_or_end (ask b e at key)) (λ k. on_with (value_or_end (ask b e at row)) (λ v. on_with (number_or_end (as_number v)) (λ i. on_with (cells_or_end (place_of at range)) (λ r. on_with (up_to_or_end (height r) i) (λ m. on_with (search_looks (look b e) b.texts k 0 (row_of r 0)) (λ o. on_with (found_or_end o) (λ n. look b e (cell_of r m n))))))))
+
+-- each fold begins with no total, and ends with its total
+abbrev pub FoldEnds : Type 0
+FoldEnds = (b : Book) (e : Known) (at : Addr) (args : Exprs) →
+    (ask b e at (Call Fun.Sum args) ≡ ask_fold b e at FoldKind.Sum None args)
+    × (ask b e at (Call Fun.Min args) ≡ ask_fold b e at FoldKind.Min None args)
+    × (ask b e at (Call Fun.Max args) ≡ ask_fold b e at FoldKind.Max None args)
+    × (ask b e at (Call Fun.Count args) ≡ ask_fold b e at FoldKind.Count None args)
+    × ((k : FoldKind) (t : Total) → ask_fold b e at k t End ≡ Val (end_value t))

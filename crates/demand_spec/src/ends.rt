@@ -1,9 +1,9 @@
 //! What ends a formula.
-ghost use Rattle.std.specs.Prelude.{◌≡◌};
+ghost use Rattle.std.specs.Prelude.{◌≡◌, IfOk, IsFalse};
 ghost use Rattle.cell_values.specs.declared.values.Value.TheVariants.{Error};
 ghost use Rattle.demand_spec.specs.declared.Asked.TheVariants.{Val};
 ghost use Rattle.demand_spec.specs.Asks.{any_value, value_or_end, number_or_end, found_or_end, or_fails, answer_of};
-ghost use Rattle.builtin_functions.specs.Tables.{as_number, condition as condition_of};
+ghost use Rattle.builtin_functions.specs.Tables.{as_number, is_error, condition as condition_of};
 ghost use Rattle.builtin_functions.specs.Folds.{taken};
 
 use crate::Asked;
@@ -40,7 +40,8 @@ pub(crate) fn any_value(asked: Asked) -> Result<Value, Asked>
 
 /// A value that is no error; an error or a need ends the formula.
 pub(crate) fn no_error(asked: Asked) -> Result<Value, Asked>
-    ensures { result ≡ value_or_end asked }
+    ensures same { result ≡ value_or_end asked }
+    ensures value { IfOk result (λ v. IsFalse (is_error v)) }
 {
     match asked {
         Asked::Val(Value::Error(_)) => Err(asked),

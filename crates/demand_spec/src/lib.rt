@@ -2,8 +2,10 @@
 #![tactic(auto)]
 
 ghost use Rattle.demand_spec.specs.Laws.{AskGrows, RoundsEnd, NeedIsThere, NeedIsMentioned, StackCloses, Carried, LoopsAreFound, PendingIsClosed, LoopInClosed, ShowsSame};
+ghost use Rattle.demand_spec.specs.Recursion.{LiteralGives, ReferenceGives, SignGives, OperatorGives, ModGives, QuotientGives, AbsGives, IfGives, ShortIfGives, AndGives, OrGives, NoneGive, NotGives, IfErrorGives, IsErrorGives, ChooseGives, FoldGives, FoldEnds, IndexGives, MatchGives, VLookupGives, HLookupGives};
 
 pub mod book;
+mod cells;
 mod ends;
 mod places;
 mod stage;
@@ -67,4 +69,42 @@ pub fn law_closed()
 /// What an edit does not reach shows the same.
 pub fn law_shows_same()
     ensures { ShowsSame }
+{}
+
+/// What an operator gives, from what its operands give, the left one first.
+pub fn law_operators_recur()
+    ensures literal { LiteralGives }
+    ensures reference { ReferenceGives }
+    ensures sign { SignGives }
+    ensures operator { OperatorGives }
+    ensures modulo { ModGives }
+    ensures quotient { QuotientGives }
+    ensures absolute { AbsGives }
+{}
+
+/// What a function of conditions gives, from what its arguments give.
+pub fn law_conditions_recur()
+    ensures choice { IfGives }
+    ensures one_choice { ShortIfGives }
+    ensures all { AndGives }
+    ensures some { OrGives }
+    ensures none { NoneGive }
+    ensures other { NotGives }
+    ensures unless_error { IfErrorGives }
+    ensures is_error { IsErrorGives }
+    ensures chosen { ChooseGives }
+{}
+
+/// What SUM, MIN, MAX and COUNT give, argument by argument.
+pub fn law_folds_recur()
+    ensures more { FoldGives }
+    ensures end { FoldEnds }
+{}
+
+/// What INDEX, MATCH, VLOOKUP and HLOOKUP give, step by step.
+pub fn law_searches_recur()
+    ensures index { IndexGives }
+    ensures position { MatchGives }
+    ensures down { VLookupGives }
+    ensures along { HLookupGives }
 {}

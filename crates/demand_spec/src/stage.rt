@@ -1,8 +1,11 @@
 //! What formulas are asked over.
-ghost use Rattle.std.specs.Prelude.{◌≡◌, option_map, option_copied};
+ghost use Rattle.std.specs.Prelude.{◌≡◌, option_map, option_copied, IfOk};
+ghost use Rattle.builtin_functions.specs.Tables.{IsValueOf};
+ghost use Rattle.demand_spec.specs.Asks.{any_value};
 ghost use Rattle.demand_spec.specs.Book.{cell_in};
 ghost use Rattle.demand_spec.specs.Listed.{content_of, value_in};
 
+use crate::ends::any_value;
 use crate::{Asked, Cell, PlainBook};
 use cell_values::{Addr, Texts, Value};
 use std::collections::BTreeMap;
@@ -33,7 +36,7 @@ impl<'a> Model for Stage<'a> {
 }
 
 impl<'a> Stage<'a> {
-    ghost use Rattle.demand_spec.specs.Stage.{look_on};
+    ghost use Rattle.demand_spec.specs.Stage.{look_on, IsSight as IsSeen};
 
     /// What a demand of a cell gives.
     #[tactic(auto, unfolding(crate::specs::Book::formula_at, crate::specs::Book::own))]
@@ -50,6 +53,24 @@ impl<'a> Stage<'a> {
                 None => Asked::Needs(at),
             },
         }
+    }
+
+    /// The value of a cell; a need ends the formula.
+    #[tactic(auto, using(crate::proofs::Texts::look_text))]
+    pub(crate) fn demand(&self, at: Addr) -> Result<Value, Asked>
+        ensures same { result ≡ any_value (look_on self.now at) }
+        ensures text { IfOk result (IsValueOf self.now.texts) }
+    {
+        let _ = &self.texts;
+        any_value(self.look(at))
+    }
+
+    /// The texts of the book.
+    pub(crate) fn texts(&self) -> &Texts
+        ensures same { result.now ≡ self.now.texts }
+        ensures texts { IsSeen self.now }
+    {
+        self.texts
     }
 }
 

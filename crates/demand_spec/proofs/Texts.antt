@@ -1,0 +1,100 @@
+-- The values that looks and formulas give have text numbers of the texts.
+use Rattle.std.proofs.Common.{◌≡◌, ◌<◌, Bool, true, false, cond, length, Option, Some, None, Result, Ok, Err, IfOk, List, [], ◌∷◌, refl, sym, ap, ◌∙◌, subst}
+use Rattle.cell_values.specs.declared.address.Addr.{Addr}
+use Rattle.cell_values.specs.declared.values.Value.{Value}
+use Rattle.cell_values.specs.Addresses.{same_addr}
+use Rattle.cell_values.specs.Texts.{Texts}
+use Rattle.formula_grammar.specs.Expr.{Expr}
+use Rattle.formula_grammar.specs.Mentions.{mentions}
+use Rattle.builtin_functions.specs.Tables.{IsValueOf}
+use Rattle.demand_spec.specs.declared.Asked.{Asked}
+use Rattle.demand_spec.specs.declared.Asked.TheVariants.{Val, Needs}
+use Rattle.demand_spec.specs.Plan.{Plan, Give, Demand, after, run}
+use Rattle.demand_spec.specs.Formula.{plan}
+use Rattle.demand_spec.specs.Book.{Book, Content, Known, cell_in, formula_of, own_of, formula_at, own, look_at, look}
+use Rattle.demand_spec.specs.TextNumbers.{TextBelow, TextsBelow}
+use Rattle.demand_spec.specs.Listed.{value_in, IsFormulaOf, IsContentOf, AreCellsOf, AreValuesOf}
+use Rattle.demand_spec.specs.Asks.{any_value, value_or_end}
+use Rattle.demand_spec.specs.Stage.{Sight, IsSight, book_of, look_on, ask_on}
+use Rattle.demand_spec.proofs.Alike.{Alike, plan_alike}
+
+-- a cell's content, and a known value
+
+content_text : (ts : Texts) (cs : List (Addr × Content)) (a : Addr) → AreCellsOf ts cs → (x : Content) → cell_in cs a ≡ Some x → IsContentOf ts x
+content_text ts [] a h x e = cc
+content_text ts (c ∷ cs) a h x e = go (same_addr a c.0) e (content_text ts cs a h.1 x)
+  where
+    go : (q : Bool) → cond q (Some c.1) (cell_in cs a) ≡ Some x → (cell_in cs a ≡ Some x → IsContentOf ts x) → IsContentOf ts x
+    go true e k = (let same : c.1 ≡ x = cc in subst (IsContentOf ts) same h.0)
+    go false e k = k e
+
+known_text : (ts : Texts) (ks : List (Addr × Value)) (a : Addr) → AreValuesOf ts ks → (v : Value) → value_in ks a ≡ Some v → IsValueOf ts v
+known_text ts [] a h v e = cc
+known_text ts (k ∷ ks) a h v e = go (same_addr a k.0) e (known_text ts ks a h.1 v)
+  where
+    go : (q : Bool) → cond q (Some k.1) (value_in ks a) ≡ Some v → (value_in ks a ≡ Some v → IsValueOf ts v) → IsValueOf ts v
+    go true e m = (let same : k.1 ≡ v = cc in subst (IsValueOf ts) same h.0)
+    go false e m = m e
+
+looked_text : (s : Sight) → IsSight s → (a : Addr) (v : Value) → look_on s a ≡ Val v → IsValueOf s.texts v
+unfolding formula_at own
+looked_text s h a v e = by_cell (cell_in s.cells a) refl e
+  where
+    by_known : (t : Expr) (k : Option Value) → value_in s.known a ≡ k → look_at (Some t) Value.Blank k a ≡ Val v → IsValueOf s.texts v
+    by_known t (Some w) p q = (let same : w ≡ v = cc in subst (IsValueOf s.texts) same (known_text s.texts s.known a h.known_of w p))
+    by_known t None p q = cc
+
+    by_cell : (o : Option Content) → cell_in s.cells a ≡ o → look_at (formula_of o) (own_of o) (value_in s.known a) a ≡ Val v → IsValueOf s.texts v
+    by_cell None p q = (let same : Value.Blank ≡ v = cc in subst (IsValueOf s.texts) same tt)
+    by_cell (Some (Content.Number n)) p q = (let same : Value.Number n ≡ v = cc in subst (IsValueOf s.texts) same tt)
+    by_cell (Some (Content.Text t)) p q = (let same : Value.Text t ≡ v = cc in subst (IsValueOf s.texts) same (content_text s.texts s.cells a h.cells_of (Content.Text t) p))
+    by_cell (Some (Content.Truth t)) p q = (let same : Value.Bool t ≡ v = cc in subst (IsValueOf s.texts) same tt)
+    by_cell (Some (Content.Formula t)) p q = by_known t (value_in s.known a) refl q
+
+-- where a value was found, it is one of these texts'
+abbrev FoundOf : Texts → Result Value Asked → Type 0
+FoundOf ts r = IfOk r (IsValueOf ts)
+
+pub look_text : (s : Sight) → IsSight s → (a : Addr) (r : Result Value Asked) → r ≡ any_value (look_on s a) → IfOk r (IsValueOf s.texts)
+look_text s h a r e = go (look_on s a) refl r e
+  where
+    go : (l : Asked) → look_on s a ≡ l → (r : Result Value Asked) → r ≡ any_value l → IfOk r (IsValueOf s.texts)
+    go (Val v) p r q = subst (FoundOf s.texts) (sym q) (looked_text s h a v p)
+    go (Needs x) p r q = subst (FoundOf s.texts) (sym q) tt
+
+-- a formula's value
+
+below : (ts : Texts) (v : Value) → IsValueOf ts v → TextBelow (λ i. i < length ts) v
+below ts (Value.Text t) h = h
+below ts (Value.Number t) h = tt
+below ts (Value.Bool t) h = tt
+below ts Value.Blank h = tt
+below ts (Value.Error t) h = tt
+
+above : (ts : Texts) (v : Value) → TextBelow (λ i. i < length ts) v → IsValueOf ts v
+above ts (Value.Text t) h = h
+above ts (Value.Number t) h = tt
+above ts (Value.Bool t) h = tt
+above ts Value.Blank h = tt
+above ts (Value.Error t) h = tt
+
+run_text : (L : List Addr) (ts : Texts) (l : Addr → Asked) → ((a : Addr) (v : Value) → l a ≡ Val v → IsValueOf ts v) → (p q : Plan) → Alike L (λ i. i < length ts) p q → (v : Value) → run l p ≡ Val v → IsValueOf ts v
+run_text L ts l h (Give w) (Give u) k v e = (let same : w ≡ v = cc in subst (IsValueOf ts) same (above ts w k.1))
+run_text L ts l h (Give w) (Demand b r) k v e = absurd k
+run_text L ts l h (Demand a f) (Give u) k v e = absurd k
+run_text L ts l h (Demand a f) (Demand b g) k v e = go (l a) refl e (λ w t q. run_text L ts l h (f w) (g w) (k.2 w (below ts w t)) v q)
+  where
+    go : (o : Asked) → l a ≡ o → after o (λ w. run l (f w)) ≡ Val v → ((w : Value) → IsValueOf ts w → run l (f w) ≡ Val v → IsValueOf ts v) → IsValueOf ts v
+    go (Val w) p q m = m w (h a w p) q
+    go (Needs x) p q m = cc
+
+asked_text : (s : Sight) → IsSight s → (at : Addr) (t : Expr) → IsFormulaOf s.texts t → (v : Value) → ask_on s at t ≡ Val v → IsValueOf s.texts v
+asked_text s h at t k v e = run_text (mentions at t) s.texts (look_on s) (looked_text s h) (plan s.texts at t) (plan s.texts at t) (plan_alike (mentions at t) (λ i. i < length s.texts) s.texts s.texts (λ i m. refl) at t k (λ x m. m)) v e
+
+pub value_text : (s : Sight) → IsSight s → (at : Addr) (t : Expr) → IsFormulaOf s.texts t → (r : Result Value Asked) → r ≡ value_or_end (ask_on s at t) → IfOk r (IsValueOf s.texts)
+value_text s h at t k r e = go (ask_on s at t) refl r e
+  where
+    go : (l : Asked) → ask_on s at t ≡ l → (r : Result Value Asked) → r ≡ value_or_end l → IfOk r (IsValueOf s.texts)
+    go (Val (Value.Error c)) p r q = subst (FoundOf s.texts) (sym q) tt
+    go (Val v) p r q = subst (FoundOf s.texts) (sym q) (asked_text s h at t k v p)
+    go (Needs x) p r q = subst (FoundOf s.texts) (sym q) tt
