@@ -4,3 +4,4 @@ pub mod References
 pub mod Mentions
 pub mod Functions
 pub mod Sound
+pub mod Plain
