@@ -2,3 +2,4 @@ pub mod Faults
 pub mod Streams
 pub mod Memory
 pub mod Folders
+pub mod Adapted

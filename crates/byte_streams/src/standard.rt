@@ -1,5 +1,6 @@
 //! Sources, sinks and a folder over the standard streams and files, or over any other reader and writer.
 ghost use Rattle.std.specs.Prelude.{◌≡◌, ◌+◌, ◌<◌, ◌≤◌, None, length, vec_len, is_ok, IfOk, IsErrOf, if◌then◌else◌, ◌≢◌, MatchResult};
+ghost use Rattle.std.specs.Io.KnownBytes.{ReadConsumes, WriteAppends};
 ghost use Rattle.byte_streams.specs.Faults.{next_count};
 ghost use Rattle.byte_streams.specs.Folders.{counted_by};
 
@@ -13,26 +14,26 @@ use std::io::{Read, Write};
 use std::marker::Model;
 use std::rt::Files;
 
-/// A source over a reader, such as the standard input. It tells none of its bytes, and is seen as its
-/// count of faults, which counts the reader's errors.
+/// A source over a reader, such as the standard input. It tells none of its bytes, and is seen as what
+/// the reader knows to be left and its count of faults, which counts the reader's errors.
 #[derive(Drop)]
-pub struct StdSource<R> {
+pub struct StdSource<R: Read> {
     input: R,
     faults: u64,
 }
 
-impl<R> Model for StdSource<R> {
-    ghost use Rattle.std.specs.Prelude.{ℕ};
+impl<R: Read> Model for StdSource<R> {
+    ghost use Rattle.byte_streams.specs.Adapted.{ReaderLeft};
 
-    ghost Value = { ℕ };
+    ghost Value = { ReaderLeft };
 
-    ghost view = { λ source. source.faults };
+    ghost view = { λ source. record { remaining = R.remaining source.input; faults = source.faults } };
 }
 
 impl<R: Read> StdSource<R> {
     /// A source of what the reader gives from here on.
     pub fn new(input: R) -> StdSource<R>
-        ensures { result ≡ 0 }
+        ensures { result ≡ record { remaining = R.remaining input; faults = 0 } }
     {
         StdSource { input, faults: 0 }
     }
@@ -41,14 +42,15 @@ impl<R: Read> StdSource<R> {
 impl<R: Read> Source for StdSource<R> {
     ghost left = { λ _. None };
 
-    ghost faults = { λ source. source };
+    ghost faults = { λ source. source.faults };
 
     ghost calls = { λ _. 0 };
 
     fn read(&mut self, buf: &mut [u8]) -> Result<usize, Failed>
         ensures within { IfOk result (λ n. n ≤ length buf.old) }
-        ensures counted { self.new ≡ (if is_ok result then self.old else next_count self.old) }
-        ensures never_falls { self.old ≤ self.new }
+        ensures moved { ReadConsumes self.old.remaining self.new.remaining result buf.new }
+        ensures counted { self.new.faults ≡ (if is_ok result then self.old.faults else next_count self.old.faults) }
+        ensures never_falls { self.old.faults ≤ self.new.faults }
     {
         match self.input.read(buf) {
             Ok(count) => Ok(count),
@@ -60,26 +62,26 @@ impl<R: Read> Source for StdSource<R> {
     }
 }
 
-/// A sink over a writer, such as the standard output. It tells none of its bytes, and is seen as its
-/// count of faults. A fault is an error of the writer, or that it took no byte of a piece that has some.
+/// A sink over a writer, such as the standard output. It tells none of its bytes, and is seen as what
+/// the writer knows that it holds and its count of faults. A fault is an error of the writer, or that it took no byte of a piece that has some.
 #[derive(Drop)]
-pub struct StdSink<W> {
+pub struct StdSink<W: Write> {
     output: W,
     faults: u64,
 }
 
-impl<W> Model for StdSink<W> {
-    ghost use Rattle.std.specs.Prelude.{ℕ};
+impl<W: Write> Model for StdSink<W> {
+    ghost use Rattle.byte_streams.specs.Adapted.{WriterHeld};
 
-    ghost Value = { ℕ };
+    ghost Value = { WriterHeld };
 
-    ghost view = { λ sink. sink.faults };
+    ghost view = { λ sink. record { contents = W.contents sink.output; faults = sink.faults } };
 }
 
 impl<W: Write> StdSink<W> {
     /// A sink that hands everything to the writer at once.
     pub fn new(output: W) -> StdSink<W>
-        ensures { result ≡ 0 }
+        ensures { result ≡ record { contents = W.contents output; faults = 0 } }
     {
         StdSink { output, faults: 0 }
     }
@@ -88,15 +90,16 @@ impl<W: Write> StdSink<W> {
 impl<W: Write> Sink for StdSink<W> {
     ghost written = { λ _. None };
 
-    ghost faults = { λ sink. sink };
+    ghost faults = { λ sink. sink.faults };
 
     ghost calls = { λ _. 0 };
 
     fn write(&mut self, piece: &[u8]) -> Result<usize, Failed>
         ensures within { IfOk result (λ n. n ≤ length piece.now) }
         ensures progress { IfOk result (λ n. 0 < length piece.now → 0 < n) }
-        ensures counted { self.new ≡ (if is_ok result then self.old else next_count self.old) }
-        ensures never_falls { self.old ≤ self.new }
+        ensures appended { WriteAppends self.old.contents self.new.contents result piece.now }
+        ensures counted { self.new.faults ≡ (if is_ok result then self.old.faults else next_count self.old.faults) }
+        ensures never_falls { self.old.faults ≤ self.new.faults }
     {
         match self.output.write(piece) {
             Ok(count) if 0 < count || piece.is_empty() => Ok(count),
