@@ -1,12 +1,12 @@
 -- What interning a text does to the numbers of all texts.
-use Rattle.std.proofs.Common.{◌≡◌, ℕ, ◌+◌, ◌<◌, ◌≤◌, Bool, true, false, cond, ◌⊎◌, inl, inr, List, [], ◌∷◌, ◌++◌, length, get_or, refl, ap, sym, ◌∙◌, arith, Option, Some, None}
-use Rattle.std.proofs.lemmas.List.{get_or_append_left, get_or_push, length_push}
+use Rattle.std.proofs.Common.{map, not, nat_lt, position, ◌≡◌, ℕ, ◌+◌, ◌<◌, ◌≤◌, Bool, true, false, cond, ◌⊎◌, inl, inr, List, [], ◌∷◌, ◌++◌, length, get_or, refl, ap, sym, ◌∙◌, arith, Option, Some, None}
+use Rattle.std.proofs.lemmas.List.{get_or_append_left, get_or_push, length_push, length-map}
 use Rattle.std.proofs.lemmas.List.Quantifiers.{position-Some}
 use Rattle.std.proofs.lemmas.Iterator.Adapters.{position_from-zero}
 use Rattle.std.proofs.lemmas.Slice.Eq.{bytes_eq-Decides}
 use Rattle.std.proofs.lemmas.Bool.{true≢false, ltb-false, cond-true, cond-false, false_from_ne_true, cases_lt}
 use Rattle.std.proofs.lemmas.List.Sums.{fails_before_first}
-use Rattle.std.specs.List.{position_from, position_or_len}
+use Rattle.std.specs.List.{position_from, position_or_len, prefix_len}
 use Rattle.std.specs.Str.{bytes_eq}
 use Rattle.std.proofs.Common.{Global, String, string_bytes}
 use Rattle.std.proofs.lemmas.Map.Text.{btree_map_updates_text}
@@ -111,3 +111,14 @@ entry_added ts text m n key number e l new numbered u q =
     ∙ ap (λ (k : ℕ). cond (bytes_eq text q) (Some k) (get_by_text m q)) l
     ∙ ap (λ (r : Option ℕ). cond (bytes_eq text q) (Some (length ts)) r) (numbered q)
     ∙ sym (number_of_more ts text q new)
+
+passes_mapped : {X : Type 0} (p : List ℕ → Bool) (f : X → List ℕ) (xs : List X) → prefix_len p (map f xs) ≡ prefix_len (λ x. p (f x)) xs
+passes_mapped p f [] = refl
+passes_mapped p f (x ∷ xs) = ap (λ n. cond (p (f x)) (1 + n) 0) (passes_mapped p f xs)
+
+-- the number of a text among texts that are read from a list
+pub number_of_mapped : {X : Type 0} (f : X → List ℕ) (xs : List X) (text : List ℕ) → number_of (map f xs) text ≡ position (λ x. bytes_eq text (f x)) xs
+unfolding number_of
+number_of_mapped f xs text =
+    ap (λ n. cond (nat_lt n (length (map f xs))) (Some n) None) (passes_mapped (λ t. not (bytes_eq text t)) f xs)
+    ∙ ap (λ m. cond (nat_lt (position_or_len (λ x. bytes_eq text (f x)) xs) m) (Some (position_or_len (λ x. bytes_eq text (f x)) xs)) None) (length-map xs f)

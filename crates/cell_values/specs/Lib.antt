@@ -6,3 +6,4 @@ pub mod CellText
 pub mod Interned
 pub mod ShownText
 pub mod Fields
+pub mod Names
