@@ -27,3 +27,6 @@ pub const LAST_COLUMN: u16 = 256;
 
 /// The last row. Rows count from 1.
 pub const LAST_ROW: u32 = 65_536;
+
+#[cfg(test)]
+mod tests;
