@@ -8,4 +8,7 @@ pub mod laws;
 pub mod operators;
 
 pub use folds::{Fold, FoldKind, Go};
-pub use operators::{Op2, Sign2};
+pub use operators::{Op2, Sign2, binary, condition, same, unary};
+
+#[cfg(test)]
+mod tests;
