@@ -1,0 +1,3 @@
+pub mod Sheet
+pub mod Place
+pub mod Row
