@@ -44,6 +44,9 @@ value_of s k = slice_index (values_of s) k
 unfoldable pub words_of_tag : ℕ → ℕ
 words_of_tag tag = 1
 
+abbrev pub word_count : Shown → ℕ
+word_count s = words_of_tag (tag_of s)
+
 -- numbers and texts are those of the program
 abbrev pub IsShown : Shown → Type 0
 IsShown (Shown.Val (Value.Number n)) = IsTrue (fits n)

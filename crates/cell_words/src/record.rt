@@ -2,7 +2,7 @@
 ghost use Rattle.std.specs.Prelude.{◌≡◌, ◌↔◌, ◌<◌, ◌≤◌, Bool, cond, IfSome};
 ghost use Rattle.cell_values.specs.declared.values.Code.{Code};
 ghost use Rattle.cell_values.specs.declared.values.Shown.{Shown};
-ghost use Rattle.cell_words.specs.Records.{tag_of, value_of, code_number, words_of_tag, Spells};
+ghost use Rattle.cell_words.specs.Records.{tag_of, value_of, code_number, words_of_tag, word_count, Spells};
 
 use crate::WORDS;
 use cell_values::{Code, Shown, TextId, Value};
@@ -68,7 +68,7 @@ fn code_word(code: Code) -> u64
 /// are 0.
 #[tactic(auto, unfolding(crate::specs::Records::words_of_tag))]
 pub fn record_words(shown: Shown) -> u32
-    ensures value { result ≡ words_of_tag (tag_of shown) }
+    ensures value { result ≡ word_count shown }
     ensures range { (1 ≤ result) × (result ≤ WORDS) }
 {
     let _shown = shown;

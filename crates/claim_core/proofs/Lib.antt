@@ -1,0 +1,13 @@
+pub mod Totals
+pub mod Later
+pub mod Keeps
+pub mod EachKind
+pub mod Places
+pub mod Allowed
+pub mod Told
+pub mod Passing
+pub mod Opening
+pub mod Closing
+pub mod Gathered
+pub mod Ends
+pub mod Seeing

@@ -1,0 +1,9 @@
+pub mod BookCode
+pub mod Pending
+pub mod Words
+pub mod Lists
+pub mod Rule
+pub mod Steps
+pub mod Table
+pub mod Plays
+pub mod Seen
