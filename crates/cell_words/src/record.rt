@@ -2,7 +2,7 @@
 ghost use Rattle.std.specs.Prelude.{◌≡◌, ◌↔◌, ◌<◌, ◌≤◌, Bool, cond, IfSome};
 ghost use Rattle.cell_values.specs.declared.values.Code.{Code};
 ghost use Rattle.cell_values.specs.declared.values.Shown.{Shown};
-ghost use Rattle.cell_words.specs.Records.{tag_of, value_of, code_number, words_of_tag, word_count, Spells};
+ghost use Rattle.cell_words.specs.Records.{tag_of, value_of, code_number, tag_words, record_words, Spells};
 
 use crate::WORDS;
 use cell_values::{Code, Shown, TextId, Value};
@@ -38,10 +38,11 @@ pub fn record_tag(shown: Shown) -> u64
 }
 
 /// The value word `k`, from 0, of what a cell shows.
-#[tactic(auto, unfolding(crate::specs::Records::values_of))]
+#[tactic(auto, unfolding(crate::specs::Records::values_of, crate::specs::Records::tag_words))]
 pub fn record_value(shown: Shown, k: u32) -> u64
     requires { k < WORDS }
-    ensures { result ≡ value_of shown k }
+    ensures value { result ≡ value_of shown k }
+    ensures rest { record_words shown ≤ k → result ≡ 0 }
 {
     match shown {
         Shown::Val(Value::Number(number)) => number.cast_unsigned(),
@@ -66,9 +67,9 @@ fn code_word(code: Code) -> u64
 
 /// How many value words of the record of what a cell shows are stored, from the first on. The others
 /// are 0.
-#[tactic(auto, unfolding(crate::specs::Records::words_of_tag))]
+#[tactic(auto, unfolding(crate::specs::Records::tag_words))]
 pub fn record_words(shown: Shown) -> u32
-    ensures value { result ≡ word_count shown }
+    ensures value { result ≡ record_words shown }
     ensures range { (1 ≤ result) × (result ≤ WORDS) }
 {
     let _shown = shown;
@@ -76,10 +77,10 @@ pub fn record_words(shown: Shown) -> u32
 }
 
 /// The same number, for a record with this tag.
-#[tactic(auto, unfolding(crate::specs::Records::words_of_tag))]
+#[tactic(auto, unfolding(crate::specs::Records::tag_words))]
 pub fn tag_words(tag: u64) -> u32
     requires { (1 ≤ tag) × (tag ≤ 7) }
-    ensures value { result ≡ words_of_tag tag }
+    ensures value { result ≡ tag_words tag }
     ensures range { (1 ≤ result) × (result ≤ WORDS) }
 {
     let _tag = tag;

@@ -22,7 +22,7 @@ use Rattle.claim_core.specs.Rule.{Setup, setup_of, shown_in, RoundWords, words_o
 use Rattle.claim_core.specs.Steps.{me, noted, changed, fresh, claim_word, claim_answer, publish_word, publish_answer, held_after, tagged, valued, rec_of, HasSpelt, with_cells, with_counter, with_tag, with_value}
 use Rattle.cell_values.specs.declared.values.Shown.{Shown}
 use Rattle.cell_words.specs.declared.TheConstants.{WORDS}
-use Rattle.cell_words.specs.Records.{tag_of, value_of, word_count}
+use Rattle.cell_words.specs.Records.{tag_of, value_of, record_words}
 use Rattle.claim_core.specs.Lists.{stored_at, held_tag, held_value}
 use Rattle.claim_core.specs.Table.{Holds}
 use Rattle.claim_core.specs.Plays.{value_at, looks, claims, takes, stores_tag, stores_value, publishes, loads_tag, loads_value}
@@ -240,7 +240,7 @@ module _ {S : Type 0} (setup : Setup) (slots id : ℕ) (m : Me S View) (own : m.
           ap (λ (z : List Held × ℕ). (changed (ev.StoreValue (rec_of z.0) z.1 y) (map (valued z.1 y) z.0) m.0, m.1)) (λ i. (sym holds i, here i)),
         )
 
-    pub publish_allowed : (i c : ℕ) → i < length setup.cells → c < 64 → Seen m.0 i (Claimed c) → g.tag ≡ Some (tag_of (shown_in setup i)) → ((j : ℕ) → j < word_count (shown_in setup i) → stored_at j g.values ≡ Some (value_of (shown_in setup i) j))
+    pub publish_allowed : (i c : ℕ) → i < length setup.cells → c < 64 → Seen m.0 i (Claimed c) → g.tag ≡ Some (tag_of (shown_in setup i)) → ((j : ℕ) → j < record_words (shown_in setup i) → stored_at j g.values ≡ Some (value_of (shown_in setup i) j))
         → Allows (Holds setup) slots id m (i + 1) (λ n. either (eqb n (c + 1)) (word_of (Done (me m.0) c g.rec)) n) (publishes (step slots (i + 1) (c + 1) (word_of (Done (me m.0) c g.rec)) none) m)
     publish_allowed i c low few seen tag value s h _ at _ =
         let r = h.read in
@@ -269,7 +269,7 @@ module _ {S : Type 0} (setup : Setup) (slots id : ℕ) (m : Me S View) (own : m.
           ),
         )
 
-    spells_one : (x : Shown) → HasSpelt x m.0 → (g.tag ≡ Some (tag_of x)) × ((j : ℕ) → j < word_count x → stored_at j g.values ≡ Some (value_of x j))
+    spells_one : (x : Shown) → HasSpelt x m.0 → (g.tag ≡ Some (tag_of x)) × ((j : ℕ) → j < record_words x → stored_at j g.values ≡ Some (value_of x j))
     spells_one x s =
         let a : g.tag ∷ [] ≡ Some (tag_of x) ∷ [] = subst (λ (hs : List Held). map held_tag hs ≡ map (λ _. Some (tag_of x)) hs) holds s.0 in
         let a' : g.tag ≡ Some (tag_of x) = cc in
@@ -315,8 +315,8 @@ module _ {S : Type 0} (setup : Setup) (slots id : ℕ) (m : Me S View) (own : m.
         keeps,
         tt,
         unmoved s h n w (load_value_keeps setup r s.views h.ruled id m.0 at own k j x),
-        subst (λ (z : ℕ × ℕ). ((i : ℕ) → SeenDone m.0 i z.0 → z.1 < word_count (shown_in (setup_of m.0) i) → x ≡ value_of (shown_in (setup_of m.0) i) z.1) × ◌≡◌ {A = Me S View} (w, m.1) (noted (ev.LoadValue z.0 z.1 x) m.0, m.1)) (λ e. (rec_here e, k_here e)) (
-          (λ i seen l. read ∙ (done_spells setup r s.views h.ruled id m.0 at i k seen).1 j (subst (λ (p : Setup). j < word_count (shown_in p i)) known l) ∙ ap (λ (p : Setup). value_of (shown_in p i) j) (sym known)),
+        subst (λ (z : ℕ × ℕ). ((i : ℕ) → SeenDone m.0 i z.0 → z.1 < record_words (shown_in (setup_of m.0) i) → x ≡ value_of (shown_in (setup_of m.0) i) z.1) × ◌≡◌ {A = Me S View} (w, m.1) (noted (ev.LoadValue z.0 z.1 x) m.0, m.1)) (λ e. (rec_here e, k_here e)) (
+          (λ i seen l. read ∙ (done_spells setup r s.views h.ruled id m.0 at i k seen).1 j (subst (λ (p : Setup). j < record_words (shown_in p i)) known l) ∙ ap (λ (p : Setup). value_of (shown_in p i) j) (sym known)),
           refl,
         ),
       )

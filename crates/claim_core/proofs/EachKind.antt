@@ -15,8 +15,8 @@ use Rattle.claim_core.specs.declared.event.Publish.TheVariants as publish
 use Rattle.claim_core.specs.declared.view.Held.{Held}
 use Rattle.claim_core.specs.declared.view.View.{View}
 use Rattle.cell_words.specs.declared.TheConstants.{WORDS}
-use Rattle.cell_words.specs.Records.{tag_of, value_of, word_count}
-use Rattle.cell_words.proofs.Counts.{word_count_small}
+use Rattle.cell_words.specs.Records.{tag_of, value_of, record_words}
+use Rattle.cell_words.proofs.Counts.{record_words_small}
 use Rattle.claim_core.specs.Lists.{stored_at}
 use Rattle.claim_core.specs.Words.{NotBehind, value_place}
 use Rattle.claim_core.specs.Rule.{total, Setup, shown_in, RoundWords, is, below, is_done, names, claimer_is, publisher_is, or_none, won_claim, won_publish, has_number, holds_record, Fits, Each, Spelt, Written, WorkersBelow, RuledWords, Ruled}
@@ -211,7 +211,7 @@ module _ (setup : Setup) (r : RoundWords) (views : List View) (h : Ruled setup r
             | Done p x d ↦ λ q. let t = s.spelt i (Done p x d) q in (
               t.0,
               λ j l. get_or-set_other r.values (value_place g.rec k) (value_place d j) y 0
-                  (places_differ d j g.rec k (let few = word_count_small (shown_in setup i) in omega arith) low (unnamed i p x d q)) ∙ t.1 j l,
+                  (places_differ d j g.rec k (let few = record_words_small (shown_in setup i) in omega arith) low (unnamed i p x d q)) ∙ t.1 j l,
             )
           ];
           workers_below = s.workers_below;
@@ -225,7 +225,7 @@ module _ (setup : Setup) (r : RoundWords) (views : List View) (h : Ruled setup r
         tt (λ w i. omega arith) (λ w i. omega arith)
 
     -- the cell i was seen claimed by c, and the record spells what the book shows there
-    module _ (i c : ℕ) (d : CellWord) (there : get_elem? r.cells i ≡ some d) (seen : NotBehind (Claimed c) d) (shown : (g.tag ≡ Some (tag_of (shown_in setup i))) × ((j : ℕ) → j < word_count (shown_in setup i) → stored_at j g.values ≡ Some (value_of (shown_in setup i) j))) where
+    module _ (i c : ℕ) (d : CellWord) (there : get_elem? r.cells i ≡ some d) (seen : NotBehind (Claimed c) d) (shown : (g.tag ≡ Some (tag_of (shown_in setup i))) × ((j : ℕ) → j < record_words (shown_in setup i) → stored_at j g.values ≡ Some (value_of (shown_in setup i) j))) where
       spells : Spelt setup r i (Done (me v) c g.rec)
       spells = (
         subst (λ o. IfSome o (λ x. get_or r.tags g.rec 0 ≡ x)) shown.0 written_mine.0,

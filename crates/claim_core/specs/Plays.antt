@@ -7,7 +7,7 @@ use Rattle.claim_core.specs.declared.event.Event.TheVariants as ev
 use Rattle.claim_core.specs.declared.view.View.{View}
 use Rattle.cell_words.specs.declared.TheConstants.{WORDS}
 use Rattle.cell_words.specs.Words.{Codes}
-use Rattle.cell_words.specs.Records.{tag_of, value_of, word_count}
+use Rattle.cell_words.specs.Records.{tag_of, value_of, record_words}
 use Rattle.claim_core.specs.Words.{NotBehind}
 use Rattle.claim_core.specs.Rule.{Each, Agrees, SeenDone, shown_at, InRound, OwnEvents}
 use Rattle.claim_core.specs.Steps.{changed, noted, fresh, tagged, valued, rec_of, claim_answer, publish_answer, held_after}
@@ -43,7 +43,7 @@ module _ {S : Type 0} where
 
   abbrev pub loads_value : Step S → Me S View → ℕ → Me S View → Type 0
   loads_value st m n m' = let rec = value_at st.word m.0 / WORDS in let k = value_at st.word m.0 % WORDS in
-      ((i : ℕ) → SeenDone m.0 i rec → k < word_count (shown_at m.0 i) → n ≡ value_of (shown_at m.0 i) k) × (m' ≡ (noted (ev.LoadValue rec k n) m.0, m.1))
+      ((i : ℕ) → SeenDone m.0 i rec → k < record_words (shown_at m.0 i) → n ≡ value_of (shown_at m.0 i) k) × (m' ≡ (noted (ev.LoadValue rec k n) m.0, m.1))
 
   -- a load that notes nothing tells what the rule knows of the view
   abbrev pub learns : Step S → Me S View → ℕ → Me S View → Type 0

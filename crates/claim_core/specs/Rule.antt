@@ -16,7 +16,7 @@ use Rattle.cell_values.specs.declared.address.Addr.{Addr}
 use Rattle.cell_values.specs.declared.values.Shown.{Shown}
 use Rattle.cell_words.specs.declared.TheConstants.{WORDS}
 use Rattle.cell_words.specs.Words.{word_of}
-use Rattle.cell_words.specs.Records.{tag_of, value_of, word_count}
+use Rattle.cell_words.specs.Records.{tag_of, value_of, record_words}
 use Rattle.demand_spec.specs.Book.{Book, shown}
 use Rattle.claim_core.specs.Words.{NotBehind, value_place}
 use Rattle.claim_core.specs.Lists.{stored_at}
@@ -134,7 +134,7 @@ Each {A} xs P = (n : ℕ) (x : A) → get_elem? xs n ≡ some x → P x
 
 -- the record k has the words of this
 abbrev pub HasWords : RoundWords → ℕ → Shown → Type 0
-HasWords r k s = (slice_index r.tags k ≡ tag_of s) × ((j : ℕ) → j < word_count s → slice_index r.values (value_place k j) ≡ value_of s j)
+HasWords r k s = (slice_index r.tags k ≡ tag_of s) × ((j : ℕ) → j < record_words s → slice_index r.values (value_place k j) ≡ value_of s j)
 
 -- where the cell i is done, its record has the words of what the book shows there
 abbrev pub Spelt : Setup → RoundWords → ℕ → CellWord → Type 0

@@ -11,7 +11,7 @@ use Rattle.claim_core.specs.declared.view.Made.{Made}
 use Rattle.claim_core.specs.declared.view.Held.{Held}
 use Rattle.claim_core.specs.declared.view.View.{View}
 use Rattle.cell_values.specs.declared.values.Shown.{Shown}
-use Rattle.cell_words.specs.Records.{tag_of, value_of, word_count}
+use Rattle.cell_words.specs.Records.{tag_of, value_of, record_words}
 use Rattle.claim_core.specs.Lists.{record_of, held_tag, held_value}
 use Rattle.claim_core.specs.Rule.{RoundWords}
 
@@ -85,7 +85,7 @@ valued k x g = record { rec = g.rec; tag = g.tag; values = record { k = k; word 
 abbrev pub HasSpelt : Shown → View → Type 0
 HasSpelt s v =
     (map held_tag v.held ≡ map (λ _. Some (tag_of s)) v.held)
-    × ((j : ℕ) → j < word_count s → map (held_value j) v.held ≡ map (λ _. Some (value_of s j)) v.held)
+    × ((j : ℕ) → j < record_words s → map (held_value j) v.held ≡ map (λ _. Some (value_of s j)) v.held)
 
 -- the record's number after an answer to a publish
 abbrev pub taken_after : Publish → Option ℕ → Option ℕ

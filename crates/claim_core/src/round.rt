@@ -3,7 +3,7 @@ ghost use Rattle.std.specs.Prelude.{◌≡◌, ℕ, ◌+◌, ◌*◌, ◌<◌, �
 ghost use Rattle.std.specs.Slots.{slots_items, slots_len, IsFull};
 ghost use Rattle.cell_words.specs.declared.cell_word.CellWord.{CellWord};
 ghost use Rattle.cell_words.specs.Words.{Codes};
-ghost use Rattle.cell_words.specs.Records.{tag_of, value_of, word_count};
+ghost use Rattle.cell_words.specs.Records.{tag_of, value_of, record_words};
 ghost use Rattle.claim_core.specs.Words.{value_place};
 ghost use Rattle.claim_core.specs.Lists.{listed, record_of};
 
@@ -246,7 +246,7 @@ impl<'b, B: BookView> Round<'b, B> {
         requires { IsPassOf self.now pass.old × (rec < length self.now.setup.cells + self.now.setup.workers) × (k < WORDS) }
         ensures pass { Stays self.now pass.old pass.new × (pass.new.taken ≡ pass.old.taken) }
         ensures step { pass.new.view ≡ noted (ev.LoadValue rec k result) pass.old.view }
-        ensures shown { (i : ℕ) → SeenDone pass.old.view i rec → k < word_count (shown_in self.now.setup i) → result ≡ value_of (shown_in self.now.setup i) k }
+        ensures shown { (i : ℕ) → SeenDone pass.old.view i rec → k < record_words (shown_in self.now.setup i) → result ≡ value_of (shown_in self.now.setup i) k }
     {
         let at = self.value_place(rec, k);
         self.table.shared.load::<LoadsValue>(&mut pass.seat, at)

@@ -1,5 +1,5 @@
 use Rattle.std.proofs.Common.{rules, ◌≡◌, ◌<◌, ℕ, length, sym, ap, ◌∙◌, subst, arith}
-use Rattle.cell_words.specs.Records.{value_of, word_count}
+use Rattle.cell_words.specs.Records.{value_of, record_words}
 use Rattle.claim_core.specs.Words.{value_place}
 use Rattle.claim_core.specs.Plays.{value_at}
 use Rattle.claim_core.specs.Rule.{Setup, setup_of, shown_in, shown_at, SeenDone}
@@ -30,7 +30,7 @@ returns-clause-shown g c i seen low =
     let known : setup_of v ≡ c.args.self.now.setup = ap (λ p. setup_of p.view) c.pass.view_is ∙ c.requires.0.1 in
     let at : ℕ = value_at c.value_place-at.result v in
     let place : at ≡ value_place c.args.rec c.args.k = value_at_place c.value_place-at.result (length c.args.self.now.setup.cells) c.args.self.now.setup.workers (value_place c.args.rec c.args.k) v c.value_place-at.ensures (ap (λ (p : Setup). length p.cells) known) (ap (λ (p : Setup). p.workers) known) in
-    let told : (i : ℕ) → SeenDone v i c.args.rec → c.args.k < word_count (shown_at v i) → c.load.result ≡ value_of (shown_at v i) c.args.k =
-    subst (λ (z : ℕ × ℕ). (i : ℕ) → SeenDone v i z.0 → z.1 < word_count (shown_at v i) → c.load.result ≡ value_of (shown_at v i) z.1)
+    let told : (i : ℕ) → SeenDone v i c.args.rec → c.args.k < record_words (shown_at v i) → c.load.result ≡ value_of (shown_at v i) c.args.k =
+    subst (λ (z : ℕ × ℕ). (i : ℕ) → SeenDone v i z.0 → z.1 < record_words (shown_at v i) → c.load.result ≡ value_of (shown_at v i) z.1)
     (λ e. (rec_of_place c.args.rec c.args.k at place c.requires.2 e, k_of_place c.args.rec c.args.k at place c.requires.2 e)) c.load.ensures.2.0 in
-    told i (subst (λ p. SeenDone p.view i c.args.rec) (sym c.pass.view_is) seen) (subst (λ (p : Setup). c.args.k < word_count (shown_in p i)) (sym known) low) ∙ ap (λ (p : Setup). value_of (shown_in p i) c.args.k) known
+    told i (subst (λ p. SeenDone p.view i c.args.rec) (sym c.pass.view_is) seen) (subst (λ (p : Setup). c.args.k < record_words (shown_in p i)) (sym known) low) ∙ ap (λ (p : Setup). value_of (shown_in p i) c.args.k) known
