@@ -1,0 +1,4 @@
+pub mod Spelling
+pub mod Entries
+pub mod Named
+pub mod Lookup

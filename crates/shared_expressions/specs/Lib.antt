@@ -1,0 +1,4 @@
+pub mod Trees
+pub mod Keys
+pub mod Stored
+pub mod Laws

@@ -1,0 +1,22 @@
+//! Expressions kept once each: copies of a formula share one expression.
+#![tactic(auto)]
+
+ghost use Rattle.shared_expressions.specs.Laws.{MentionsAreAreas};
+
+mod areas;
+mod copies;
+mod keys;
+pub mod nodes;
+pub mod pool;
+mod references;
+mod store;
+#[cfg(test)]
+mod tests;
+
+pub use nodes::{ExprId, Node};
+pub use pool::Pool;
+
+/// What a formula mentions is what its areas hold, one after the other.
+pub fn law_mentions_are_areas()
+    ensures { MentionsAreAreas }
+{}

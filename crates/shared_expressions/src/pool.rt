@@ -1,0 +1,104 @@
+//! Pools of expressions.
+ghost use Rattle.std.specs.Prelude.{◌≡◌, length, IfOk, option_map, [], slice_get};
+ghost use Rattle.formula_grammar.specs.Expr.{expr_of};
+ghost use Rattle.formula_grammar.specs.Mentions.{areas};
+ghost use Rattle.shared_expressions.specs.Trees.{root_of, tree_at, child_of, depth, KeepsTrees, StandsFor};
+
+use crate::areas::area_from;
+use crate::copies::tree_from;
+use crate::nodes::{ExprId, Node};
+use crate::store::{Store, entry_at, intern_tree, part};
+use cell_values::{Addr, Area};
+use formula_grammar::Tree;
+use std::alloc::{AllocError, Global};
+use std::collections::BTreeMap;
+use std::marker::Model;
+
+/// Expressions, each kept once. Contracts see the list of their trees, numbered from 0.
+#[derive(Drop)]
+pub struct Pool {
+    store: Store,
+}
+
+impl Model for Pool {
+    ghost use Rattle.std.specs.Prelude.{List};
+    ghost use Rattle.formula_grammar.specs.Expr.{Expr};
+
+    ghost Value = { List Expr };
+
+    ghost use Rattle.std.specs.Coded.{coded_list};
+    ghost use Rattle.formula_grammar.specs.ExprCode.{expr_code};
+
+    ghost coded = { coded_list expr_code };
+
+    ghost use Rattle.shared_expressions.specs.Stored.{trees, IsStore};
+
+    ghost view = { λ p. trees p.store };
+
+    ghost invariant = { λ p. IsStore p.store };
+}
+
+impl Pool {
+    /// No expressions.
+    pub fn new(alloc: Global) -> Pool
+        ensures { result ≡ [] }
+    {
+        Pool {
+            store: Store {
+                entries: Vec::new(alloc),
+                children: Vec::new(alloc),
+                index: BTreeMap::new(alloc),
+            },
+        }
+    }
+
+    /// The root of an expression.
+    pub fn node(&self, id: ExprId) -> Node
+        ensures { result ≡ root_of (tree_at self.now id) }
+    {
+        entry_at(&self.store.entries, id.0).node
+    }
+
+    /// The depth of an expression's tree: a leaf has 1.
+    pub fn depth(&self, id: ExprId) -> usize
+        ensures { result ≡ depth (tree_at self.now id) }
+    {
+        entry_at(&self.store.entries, id.0).depth
+    }
+
+    /// The id of a tree; equal trees have one id.
+    pub fn intern(&mut self, alloc: Global, tree: &Tree) -> Result<ExprId, AllocError>
+        ensures ok { IfOk result (λ id. StandsFor self.new id (expr_of tree.now)) }
+        ensures kept { KeepsTrees self.old self.new }
+    {
+        let number = intern_tree(alloc, &mut self.store, tree)?;
+        Ok(ExprId(number))
+    }
+
+    /// An operand or argument of an expression's root, counted from 0 from the left.
+    pub fn child(&self, id: ExprId, k: u32) -> Option<ExprId>
+        ensures { option_map (tree_at self.now) result ≡ child_of k (tree_at self.now id) }
+    {
+        let k = k as usize;
+        if k < entry_at(&self.store.entries, id.0).count {
+            Some(ExprId(part(&self.store, id.0, k)))
+        } else {
+            None
+        }
+    }
+
+    /// The tree of an expression.
+    pub fn tree(&self, alloc: Global, id: ExprId) -> Result<Tree, AllocError>
+        ensures { IfOk result (λ tree. expr_of tree ≡ tree_at self.now id) }
+    {
+        tree_from(alloc, &self.store, id.0)
+    }
+
+    /// The reference or range with a number, counted from 0 from the left, as an area. One that lies
+    /// outside the sheet at the cell is not counted.
+    pub fn area(&self, id: ExprId, at: Addr, k: u32) -> Option<Area>
+        ensures { result ≡ slice_get (areas at (tree_at self.now id)) k }
+    {
+        area_from(&self.store, id.0, at, k).ok()
+    }
+}
