@@ -34,3 +34,36 @@ area_more l k t r i m h = ap (λ z. fold_looks l k t (flat_map (row_of r) z)) (n
 
 pub area_all : (l : Addr → Asked) (k : FoldKind) (t : Total) (r : Area) (i m : ℕ) → m ≤ i → fold_looks l k t (flat_map (row_of r) (numbers_from i (m - i))) ≡ Ok t
 area_all l k t r i m h = ap (λ z. fold_looks l k t (flat_map (row_of r) z)) (numbers_all i m h)
+
+-- a search over one list and then another
+abbrev pub found_first : Result (Option ℕ) Asked → Result (Option ℕ) Asked → Result (Option ℕ) Asked
+found_first (Ok None) other = other
+found_first (Ok (Some n)) other = Ok (Some n)
+found_first (Err e) other = Err e
+
+search_looks-append : (l : Addr → Asked) (ts : Texts) (key : Value) (ys xs : List Addr) (n : ℕ) → search_looks l ts key n (xs ++ ys) ≡ found_first (search_looks l ts key n xs) (search_looks l ts key (n + length xs) ys)
+search_looks-append l ts key ys [] n = (let same : n ≡ n + 0 = omega arith in ap (λ z. search_looks l ts key z ys) same)
+search_looks-append l ts key ys (x ∷ xs) n =
+    let same : suc n + length xs ≡ n + suc (length xs) = omega arith in
+    by_look (search_looks-append l ts key ys xs (suc n) ∙ ap (λ z. found_first (search_looks l ts key (suc n) xs) (search_looks l ts key z ys)) same) (l x)
+  where
+    by_found : search_looks l ts key (suc n) (xs ++ ys) ≡ found_first (search_looks l ts key (suc n) xs) (search_looks l ts key (n + suc (length xs)) ys) → (q : Bool) → cond q (Ok (Some n)) (search_looks l ts key (suc n) (xs ++ ys)) ≡ found_first (cond q (Ok (Some n)) (search_looks l ts key (suc n) xs)) (search_looks l ts key (n + suc (length xs)) ys)
+    by_found h true = refl
+    by_found h false = h
+
+    by_look : search_looks l ts key (suc n) (xs ++ ys) ≡ found_first (search_looks l ts key (suc n) xs) (search_looks l ts key (n + suc (length xs)) ys) → (r : Asked) → and_on (any_value r) (λ v. cond (is_found ts key v) (Ok (Some n)) (search_looks l ts key (suc n) (xs ++ ys))) ≡ found_first (and_on (any_value r) (λ v. cond (is_found ts key v) (Ok (Some n)) (search_looks l ts key (suc n) xs))) (search_looks l ts key (n + suc (length xs)) ys)
+    by_look h (Val v) = by_found h (is_found ts key v)
+    by_look h (Needs y) = refl
+
+length-row : (r : Area) (i : ℕ) → length (row_of r i) ≡ width r
+length-row r i = length-map (numbers_from 0 (width r)) (cell_of r i) ∙ length-numbers_from 0 (width r)
+
+-- one row more of an area
+pub search_more : (l : Addr → Asked) (ts : Texts) (key : Value) (n : ℕ) (r : Area) (i m : ℕ) → i < m → search_looks l ts key n (flat_map (row_of r) (numbers_from i (m - i))) ≡ found_first (search_looks l ts key n (row_of r i)) (search_looks l ts key (n + width r) (flat_map (row_of r) (numbers_from (i + 1) (m - (i + 1)))))
+search_more l ts key n r i m h =
+    ap (λ z. search_looks l ts key n (flat_map (row_of r) z)) (numbers_more i m h)
+    ∙ search_looks-append l ts key (flat_map (row_of r) (numbers_from (i + 1) (m - (i + 1)))) (row_of r i) n
+    ∙ ap (λ z. found_first (search_looks l ts key n (row_of r i)) (search_looks l ts key (n + z) (flat_map (row_of r) (numbers_from (i + 1) (m - (i + 1)))))) (length-row r i)
+
+pub search_all : (l : Addr → Asked) (ts : Texts) (key : Value) (n : ℕ) (r : Area) (i m : ℕ) → m ≤ i → search_looks l ts key n (flat_map (row_of r) (numbers_from i (m - i))) ≡ Ok None
+search_all l ts key n r i m h = ap (λ z. search_looks l ts key n (flat_map (row_of r) z)) (numbers_all i m h)

@@ -1,5 +1,5 @@
 -- `ask` as a plain recursion on the formula.
-use Rattle.std.proofs.Common.{ℕ, zero, suc, arith, pos, negsuc, nat_lt, not, ◌+◌, ◌-◌, ◌<◌, ◌≤◌, ℤ, List, [], ◌∷◌, ◌++◌, flat_map, ◌≡◌, Bool, true, false, cond, Option, Some, None, Result, Ok, Err, refl, ap, ◌∙◌}
+use Rattle.std.proofs.Common.{ℕ, zero, suc, arith, pos, negsuc, nat_lt, not, ◌+◌, ◌-◌, ◌<◌, ◌≤◌, ℤ, List, [], ◌∷◌, ◌++◌, flat_map, ◌≡◌, Bool, true, false, cond, Option, Some, None, Result, Ok, Err, refl, sym, ap, ◌∙◌, IsFalse}
 use Rattle.cell_values.specs.declared.address.Addr.{Addr}
 use Rattle.cell_values.specs.declared.address.Area.{Area}
 use Rattle.cell_values.specs.declared.values.Code.{Code}
@@ -14,14 +14,14 @@ use Rattle.formula_grammar.specs.Mentions.{Place, Nowhere, Bad, Cells, place_of}
 use Rattle.builtin_functions.specs.declared.operators.Op2.{Op2}
 use Rattle.builtin_functions.specs.declared.operators.Sign2.{Sign2}
 use Rattle.builtin_functions.specs.declared.folds.FoldKind.{FoldKind}
-use Rattle.builtin_functions.specs.Tables.{table, sign_table, condition, as_number, is_error}
+use Rattle.builtin_functions.specs.Tables.{table, sign_table, unary_value, binary_value, condition, as_number, is_error}
 use Rattle.builtin_functions.specs.Folds.{Total, taken}
 use Rattle.demand_spec.specs.declared.Asked.{Asked}
 use Rattle.demand_spec.specs.declared.Asked.TheVariants.{Val, Needs}
 use Rattle.demand_spec.specs.Plan.{Plan, Give, Demand, and_then, after, run}
 use Rattle.demand_spec.specs.Formula.{fails, unless_error, value_of, or_fail, condition_of, if_number, if_cells, if_up_to, and_plan, or_plan, from_one, chosen, go_on, fold_cells, fold_argument, fold_plan, is_found, search_plan, demand_of, op_of, sign_of, plan, arguments}
 use Rattle.demand_spec.specs.Book.{Book, Known, look, ask}
-use Rattle.demand_spec.specs.Asks.{on_with, and_on, any_value, value_or_end, or_fails, condition_or_end, number_or_end, cells_or_end, up_to_or_end, found_or_end, if_error, ask_value_at, ask_chosen, fold_looks, fold_one, ask_fold, search_looks}
+use Rattle.demand_spec.specs.Asks.{answer_of, ask_two, index_steps, match_steps, v_lookup_steps, h_lookup_steps, on_with, and_on, any_value, value_or_end, or_fails, condition_or_end, number_or_end, cells_or_end, up_to_or_end, found_or_end, if_error, ask_value_at, ask_chosen, fold_looks, fold_one, ask_fold, search_looks}
 use Rattle.demand_spec.specs.Recursion.{LiteralGives, ReferenceGives}
 use Rattle.demand_spec.proofs.Plans.{run-and_then}
 
@@ -75,7 +75,20 @@ run-demand l a = go (l a)
     go (Val v) = refl
     go (Needs x) = refl
 
--- the formulas
+-- the operators at values that are no errors
+unary_is : (s : Sign2) (v : Value) → IsFalse (is_error v) → unary_value s v ≡ sign_table s v
+unary_is s (Value.Error e) h = cc
+unary_is s v h = refl
+
+binary_is : (ts : Texts) (o : Op2) (v w : Value) → IsFalse (is_error v) → IsFalse (is_error w) → binary_value ts o v w ≡ table ts o v w
+binary_is ts o (Value.Error e) w h k = cc
+binary_is ts o v (Value.Error e) h k = cc
+binary_is ts o v w h k = refl
+
+-- a value that is found is what a look gives
+pub answer_any : (r : Asked) → answer_of (any_value r) ≡ r
+answer_any (Val v) = refl
+answer_any (Needs x) = refl
 
 pub literal_gives : LiteralGives
 literal_gives b e at = (λ n. refl, λ t. refl, λ q. refl, refl)
@@ -236,3 +249,37 @@ ask_h_lookup b e at key range row rest =
     then_value (look b e) (plan b.texts at key) _ _ (λ k. then_value (look b e) (plan b.texts at row) _ _ (λ v.
     then_number (look b e) (as_number v) _ _ (λ i. then_cells (look b e) (place_of at range) _ _ (λ r. then_up_to (look b e) (height r) i _ _ (λ m.
     then_search (look b e) b.texts k (λ n. Demand (cell_of r m n) Give) (λ n. look b e (cell_of r m n)) (λ n. run-demand (look b e) (cell_of r m n)) (row_of r 0) 0)))))
+
+-- The same as evaluators take them: an operator at two values gives an error where one of them is one
+
+on_value : (r : Asked) (f g : Value → Asked) → ((v : Value) → IsFalse (is_error v) → f v ≡ g v) → on_with (value_or_end r) f ≡ on_with (value_or_end r) g
+on_value (Needs x) f g h = refl
+on_value (Val (Value.Error e)) f g h = refl
+on_value (Val v) f g h = h v refl
+
+pub ask_unary_all : (b : Book) (e : Known) (at : Addr) (s : Sign) (t : Expr) → ask b e at (Unary s t) ≡ on_with (value_or_end (ask b e at t)) (λ x. Val (unary_value (sign_of s) x))
+ask_unary_all b e at s t = ask_unary b e at s t ∙ on_value (ask b e at t) _ _ (λ v h. ap Val (sym (unary_is (sign_of s) v h)))
+
+pub ask_abs_all : (b : Book) (e : Known) (at : Addr) (t : Expr) → ask b e at (Call Fun.Abs (More t End)) ≡ on_with (value_or_end (ask b e at t)) (λ x. Val (unary_value Sign2.Abs x))
+ask_abs_all b e at t = ask_abs b e at t ∙ on_value (ask b e at t) _ _ (λ v h. ap Val (sym (unary_is Sign2.Abs v h)))
+
+two_all : (b : Book) (e : Known) (at : Addr) (o : Op2) (t u : Expr) → on_with (value_or_end (ask b e at t)) (λ x. on_with (value_or_end (ask b e at u)) (λ y. Val (table b.texts o x y))) ≡ on_with (value_or_end (ask b e at t)) (λ x. on_with (value_or_end (ask b e at u)) (λ y. Val (binary_value b.texts o x y)))
+two_all b e at o t u = on_value (ask b e at t) _ _ (λ v h. on_value (ask b e at u) _ _ (λ w k. ap Val (sym (binary_is b.texts o v w h k))))
+
+pub ask_binary_all : (b : Book) (e : Known) (at : Addr) (o : Op) (t u : Expr) → ask b e at (Binary o t u) ≡ on_with (value_or_end (ask b e at t)) (λ x. on_with (value_or_end (ask b e at u)) (λ y. Val (binary_value b.texts (op_of o) x y)))
+ask_binary_all b e at o t u = ask_binary b e at o t u ∙ two_all b e at (op_of o) t u
+
+pub ask_two_all : (b : Book) (e : Known) (at : Addr) (o : Op2) (t u : Expr) → ask_two b e at o (More t (More u End)) ≡ on_with (value_or_end (ask b e at t)) (λ x. on_with (value_or_end (ask b e at u)) (λ y. Val (binary_value b.texts o x y)))
+ask_two_all b e at o t u = two_values b e at (table b.texts o) t u ∙ two_all b e at o t u
+
+pub ask_index_steps : (b : Book) (e : Known) (at : Addr) (range row col : Expr) → ask b e at (Call Fun.Index (More range (More row (More col End)))) ≡ on_with (value_or_end (ask b e at row)) (λ v. on_with (value_or_end (ask b e at col)) (λ w. index_steps (look b e) v w (place_of at range)))
+ask_index_steps = ask_index
+
+pub ask_match_steps : (b : Book) (e : Known) (at : Addr) (key range : Expr) (rest : Exprs) → ask b e at (Call Fun.Match (More key (More range rest))) ≡ on_with (value_or_end (ask b e at key)) (λ k. match_steps (look b e) b.texts k (place_of at range))
+ask_match_steps = ask_match
+
+pub ask_v_lookup_steps : (b : Book) (e : Known) (at : Addr) (key range col : Expr) (rest : Exprs) → ask b e at (Call Fun.VLookup (More key (More range (More col rest)))) ≡ on_with (value_or_end (ask b e at key)) (λ k. on_with (value_or_end (ask b e at col)) (λ v. v_lookup_steps (look b e) b.texts k v (place_of at range)))
+ask_v_lookup_steps = ask_v_lookup
+
+pub ask_h_lookup_steps : (b : Book) (e : Known) (at : Addr) (key range row : Expr) (rest : Exprs) → ask b e at (Call Fun.HLookup (More key (More range (More row rest)))) ≡ on_with (value_or_end (ask b e at key)) (λ k. on_with (value_or_end (ask b e at row)) (λ v. h_lookup_steps (look b e) b.texts k v (place_of at range)))
+ask_h_lookup_steps = ask_h_lookup

@@ -4,17 +4,18 @@ use Rattle.cell_values.specs.declared.address.Addr.{Addr}
 use Rattle.cell_values.specs.declared.address.Area.{Area}
 use Rattle.cell_values.specs.declared.values.Code.{Code}
 use Rattle.cell_values.specs.declared.values.Value.{Value}
-use Rattle.cell_values.specs.Areas.{walk}
+use Rattle.cell_values.specs.Areas.{height, width, cell_of, row_of, column_of, walk}
 use Rattle.cell_values.specs.Texts.{Texts}
 use Rattle.formula_grammar.specs.Expr.{Expr, Exprs}
 use Rattle.formula_grammar.specs.Mentions.{Place, Nowhere, Bad, Cells}
+use Rattle.builtin_functions.specs.declared.operators.Op2.{Op2}
 use Rattle.builtin_functions.specs.declared.folds.FoldKind.{FoldKind}
-use Rattle.builtin_functions.specs.Tables.{condition, is_error}
+use Rattle.builtin_functions.specs.Tables.{as_number, condition, is_error, table}
 use Rattle.builtin_functions.specs.Folds.{Total, taken}
 use Rattle.demand_spec.specs.declared.Asked.{Asked}
 use Rattle.demand_spec.specs.declared.Asked.TheVariants.{Val, Needs}
 use Rattle.demand_spec.specs.Plan.{run}
-use Rattle.demand_spec.specs.Formula.{value_at, fold_plan, arguments, is_found}
+use Rattle.demand_spec.specs.Formula.{value_at, fold_plan, two_numbers, arguments, is_found}
 use Rattle.demand_spec.specs.Book.{Book, Known, look, ask}
 
 -- what was found goes on; else the formula has ended
@@ -109,3 +110,35 @@ ask_fold b e at k t args = run (look b e) (fold_plan k t (arguments b.texts at a
 abbrev pub search_looks : (Addr → Asked) → Texts → Value → ℕ → List Addr → Result (Option ℕ) Asked
 search_looks l ts key n [] = Ok None
 search_looks l ts key n (a ∷ rest) = and_on (any_value (l a)) (λ v. cond (is_found ts key v) (Ok (Some n)) (search_looks l ts key (suc n) rest))
+
+-- a function of two numbers over its arguments
+abbrev pub ask_two : Book → Known → Addr → Op2 → Exprs → Asked
+ask_two b e at op args = run (look b e) (two_numbers (table b.texts op) (arguments b.texts at args))
+
+-- INDEX, MATCH, VLOOKUP and HLOOKUP behind the values that they take
+
+abbrev pub index_steps : (Addr → Asked) → Value → Value → Place → Asked
+index_steps l row col range =
+    on_with (number_or_end (as_number row)) (λ i. on_with (number_or_end (as_number col)) (λ j.
+    on_with (cells_or_end range) (λ r. on_with (up_to_or_end (height r) i) (λ m. on_with (up_to_or_end (width r) j) (λ n.
+    l (cell_of r m n))))))
+
+abbrev pub match_steps : (Addr → Asked) → Texts → Value → Place → Asked
+match_steps l ts key range =
+    on_with (cells_or_end range) (λ r.
+    on_with (search_looks l ts key 0 (walk r)) (λ o. on_with (found_or_end o) (λ n.
+    Val (Value.Number (pos (suc n))))))
+
+abbrev pub v_lookup_steps : (Addr → Asked) → Texts → Value → Value → Place → Asked
+v_lookup_steps l ts key col range =
+    on_with (number_or_end (as_number col)) (λ j.
+    on_with (cells_or_end range) (λ r. on_with (up_to_or_end (width r) j) (λ n.
+    on_with (search_looks l ts key 0 (column_of r 0)) (λ o. on_with (found_or_end o) (λ m.
+    l (cell_of r m n))))))
+
+abbrev pub h_lookup_steps : (Addr → Asked) → Texts → Value → Value → Place → Asked
+h_lookup_steps l ts key row range =
+    on_with (number_or_end (as_number row)) (λ i.
+    on_with (cells_or_end range) (λ r. on_with (up_to_or_end (height r) i) (λ m.
+    on_with (search_looks l ts key 0 (row_of r 0)) (λ o. on_with (found_or_end o) (λ n.
+    l (cell_of r m n))))))

@@ -6,12 +6,12 @@ use Rattle.cell_values.specs.declared.values.Shown.{Shown}
 use Rattle.cell_values.specs.declared.values.Value.{Value}
 use Rattle.cell_values.specs.Addresses.{same_addr, IsBefore, IsOnSheet}
 use Rattle.cell_values.specs.Texts.{Texts, IsTextOf}
-use Rattle.formula_grammar.specs.Expr.{Expr, expr_of}
+use Rattle.formula_grammar.specs.Expr.{Expr, Exprs, expr_of}
 use Rattle.formula_grammar.specs.Sound.{IsSound}
 use Rattle.builtin_functions.specs.Tables.{IsValueOf}
 use Rattle.demand_spec.specs.declared.Cell.{Cell}
 use Rattle.demand_spec.specs.Book.{Book, Content, Known, formulas, shown}
-use Rattle.demand_spec.specs.TextNumbers.{TextsBelow}
+use Rattle.demand_spec.specs.TextNumbers.{TextsBelow, AllTextsBelow}
 
 abbrev pub content_of : Cell → Content
 content_of (Cell.Number n) = Content.Number n
@@ -64,6 +64,9 @@ all_shown b = shown_over b (formulas b)
 -- the text numbers of a formula, of a cell, of a book are numbers of these texts
 abbrev pub IsFormulaOf : Texts → Expr → Type 0
 IsFormulaOf ts t = TextsBelow (λ i. i < length ts) t
+
+abbrev pub AreArgumentsOf : Texts → Exprs → Type 0
+AreArgumentsOf ts args = AllTextsBelow (λ i. i < length ts) args
 
 abbrev pub IsContentOf : Texts → Content → Type 0
 IsContentOf ts (Content.Text t) = IsTextOf ts t

@@ -5,7 +5,7 @@ use Rattle.cell_values.specs.declared.values.Value.{Value}
 use Rattle.cell_values.specs.Texts.{Texts}
 use Rattle.formula_grammar.specs.Expr.{Expr}
 use Rattle.demand_spec.specs.declared.Asked.{Asked}
-use Rattle.demand_spec.specs.Book.{Book, Content, look, ask}
+use Rattle.demand_spec.specs.Book.{Book, Content, Known, look, ask}
 use Rattle.demand_spec.specs.Listed.{InOrder, value_in, AreCellsOf, AreValuesOf}
 
 pub record Sight : Type 0 where
@@ -21,6 +21,9 @@ pub record IsSight (s : Sight) : Type 0 where
 
 abbrev pub book_of : Sight → Book
 book_of s = record { cells = s.cells; texts = s.texts }
+
+abbrev pub known_of : Sight → Known
+known_of s = value_in s.known
 
 -- what a demand of a cell gives
 abbrev pub look_on : Sight → Addr → Asked

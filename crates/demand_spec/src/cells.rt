@@ -1,7 +1,7 @@
 //! Folds and searches over the cells of an area.
-ghost use Rattle.std.specs.Prelude.{◌≡◌, ◌<◌, IsFalse};
+ghost use Rattle.std.specs.Prelude.{◌≡◌, ◌+◌, ◌<◌, ◌≤◌, ◌^◌, IfOk, IfSome, IsFalse};
 ghost use Rattle.builtin_functions.specs.Tables.{IsValueOf, is_error};
-ghost use Rattle.cell_values.specs.Areas.{column_of, height, row_of, walk, IsArea};
+ghost use Rattle.cell_values.specs.Areas.{column_of, height, width, row_of, walk, IsArea};
 ghost use Rattle.demand_spec.specs.Asks.{any_value, fold_looks, search_looks};
 ghost use Rattle.demand_spec.specs.Formula.{is_found};
 
@@ -66,5 +66,68 @@ impl<'a> Stage<'a> {
             total = self.fold_row(kind, total, area, i)?;
         }
         Ok(total)
+    }
+
+    /// The place in row `i` of an area of the first cell that has the key, the cells being numbered from
+    /// `first` on.
+    #[tactic(auto, using(crate::proofs::Walks::numbers_more, crate::proofs::Walks::numbers_all))]
+    pub(crate) fn search_row(
+        &self,
+        key: Value,
+        area: Area,
+        i: u32,
+        first: u32,
+    ) -> Result<Option<u32>, Asked>
+        requires area { IsArea area }
+        requires row { i < height area }
+        requires first { first ≤ 2 ^ 31 }
+        requires key { IsValueOf self.now.texts key }
+        requires no_error { IsFalse (is_error key) }
+        ensures same { result ≡ search_looks (look_on self.now) self.now.texts key first (row_of area i) }
+        ensures within { IfOk result (λ o. IfSome o (λ n. (first ≤ n) × (n < first + width area))) }
+    {
+        for j in 0..width(area) {
+            let value = self.demand(cell(area, i, j))?;
+            if is_found(key, value, self.texts()) {
+                return Ok(Some(first + j));
+            }
+        }
+        Ok(None)
+    }
+
+    /// The place in an area's walk of the first cell that has the key.
+    #[tactic(auto, using(crate::proofs::Areas::search_more, crate::proofs::Areas::search_all))]
+    pub(crate) fn search_area(&self, key: Value, area: Area) -> Result<Option<u32>, Asked>
+        requires area { IsArea area }
+        requires key { IsValueOf self.now.texts key }
+        requires no_error { IsFalse (is_error key) }
+        ensures same { result ≡ search_looks (look_on self.now) self.now.texts key 0 (walk area) }
+    {
+        let mut passed = 0;
+        for i in 0..height(area) {
+            if let Some(n) = self.search_row(key, area, i, passed)? {
+                return Ok(Some(n));
+            }
+            passed += width(area);
+        }
+        Ok(None)
+    }
+
+    /// The place in the first column of an area of the first cell that has the key.
+    #[tactic(auto, using(crate::proofs::Walks::numbers_more, crate::proofs::Walks::numbers_all), unfolding(cell_values::specs::Areas::width))]
+    pub(crate) fn search_column(&self, key: Value, area: Area) -> Result<Option<u32>, Asked>
+        requires area { IsArea area }
+        requires key { IsValueOf self.now.texts key }
+        requires no_error { IsFalse (is_error key) }
+        ensures same { result ≡ search_looks (look_on self.now) self.now.texts key 0 (column_of area 0) }
+        ensures within { IfOk result (λ o. IfSome o (λ n. n < height area)) }
+    {
+        for i in 0..height(area) {
+            let value = self.demand(cell(area, i, 0))?;
+            if is_found(key, value, self.texts()) {
+                return Ok(Some(i));
+            }
+        }
+        Ok(None)
     }
 }

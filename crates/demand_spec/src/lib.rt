@@ -9,6 +9,7 @@ mod cells;
 mod ends;
 mod places;
 mod stage;
+mod steps;
 pub mod view;
 
 pub use book::PlainBook;
