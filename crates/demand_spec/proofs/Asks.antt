@@ -21,7 +21,7 @@ use Rattle.demand_spec.specs.declared.Asked.TheVariants.{Val, Needs}
 use Rattle.demand_spec.specs.Plan.{Plan, Give, Demand, and_then, after, run}
 use Rattle.demand_spec.specs.Formula.{fails, unless_error, value_of, or_fail, condition_of, if_number, if_cells, if_up_to, and_plan, or_plan, from_one, chosen, go_on, fold_cells, fold_argument, fold_plan, is_found, search_plan, demand_of, op_of, sign_of, plan, arguments}
 use Rattle.demand_spec.specs.Book.{Book, Known, look, ask}
-use Rattle.demand_spec.specs.Asks.{answer_of, ask_two, index_steps, match_steps, v_lookup_steps, h_lookup_steps, on_with, and_on, any_value, value_or_end, or_fails, condition_or_end, number_or_end, cells_or_end, up_to_or_end, found_or_end, if_error, ask_value_at, ask_chosen, fold_looks, fold_one, ask_fold, search_looks}
+use Rattle.demand_spec.specs.Asks.{answer_of, ask_two, index_steps, match_steps, v_lookup_steps, h_lookup_steps, on_with, and_on, any_value, value_or_end, or_fails, condition_or_end, number_or_end, cells_or_end, up_to_or_end, found_or_end, if_error, ask_value_at, ask_chosen, fold_looks, fold_part, ask_fold, search_looks}
 use Rattle.demand_spec.specs.Recursion.{LiteralGives, ReferenceGives}
 use Rattle.demand_spec.proofs.Plans.{run-and_then}
 
@@ -183,7 +183,7 @@ run-fold_cells l k f (a ∷ cs) t = by_look (run-fold_cells l k f cs) (l a)
     by_look h (Val v) = by_taken h (taken k t true v)
     by_look h (Needs x) = refl
 
-pub ask_fold_more : (b : Book) (e : Known) (at : Addr) (k : FoldKind) (t : Total) (x : Expr) (rest : Exprs) → ask_fold b e at k t (More x rest) ≡ on_with (fold_one b e at k t (place_of at x) x) (λ u. ask_fold b e at k u rest)
+pub ask_fold_more : (b : Book) (e : Known) (at : Addr) (k : FoldKind) (t : Total) (x : Expr) (rest : Exprs) → ask_fold b e at k t (More x rest) ≡ on_with (fold_part (look b e) k t (place_of at x) (ask b e at x)) (λ u. ask_fold b e at k u rest)
 ask_fold_more b e at k t x rest = by_place (place_of at x)
   where
     by_taken : (f : Total → Plan) (r : Result Total Code) → run (look b e) (go_on r f) ≡ on_with (or_fails r) (λ u. run (look b e) (f u))
@@ -194,7 +194,7 @@ ask_fold_more b e at k t x rest = by_place (place_of at x)
     by_answer f (Val v) = by_taken f (taken k t false v)
     by_answer f (Needs y) = refl
 
-    by_place : (p : Place) → run (look b e) (fold_argument k t p (plan b.texts at x) (λ u. fold_plan k u (arguments b.texts at rest))) ≡ on_with (fold_one b e at k t p x) (λ u. ask_fold b e at k u rest)
+    by_place : (p : Place) → run (look b e) (fold_argument k t p (plan b.texts at x) (λ u. fold_plan k u (arguments b.texts at rest))) ≡ on_with (fold_part (look b e) k t p (ask b e at x)) (λ u. ask_fold b e at k u rest)
     by_place (Cells r) = run-fold_cells (look b e) k (λ u. fold_plan k u (arguments b.texts at rest)) (walk r) t
     by_place Bad = refl
     by_place Nowhere = run-and_then (look b e) (plan b.texts at x) (λ v. go_on (taken k t false v) (λ u. fold_plan k u (arguments b.texts at rest))) ∙ by_answer (λ u. fold_plan k u (arguments b.texts at rest)) (ask b e at x)

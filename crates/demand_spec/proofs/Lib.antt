@@ -10,3 +10,5 @@ pub mod Lookups
 pub mod Asks
 pub mod Texts
 pub mod Areas
+pub mod Listed
+pub mod Rules

@@ -1,5 +1,5 @@
 -- Known values in an ordered map.
-use Rattle.std.proofs.Common.{◌≡◌, ℕ, cond, ◌&&◌, List, [], ◌∷◌, eqb, nat_cmp, is_eq, Ordering, Less, Equal, Greater, Some, refl, ◌∙◌, arith}
+use Rattle.std.proofs.Common.{◌≡◌, ℕ, cond, ◌&&◌, List, [], ◌∷◌, eqb, nat_cmp, is_eq, Ordering, Less, Equal, Greater, Some, refl, sym, ◌∙◌, arith}
 use Rattle.std.specs.Ordering.{ordering_then}
 use Rattle.std.specs.Map.{lookup}
 use Rattle.cell_values.specs.contracts.address.AddrOrd.TheImpl as addr_ord
@@ -7,6 +7,7 @@ use Rattle.cell_values.specs.declared.address.Addr.{Addr}
 use Rattle.cell_values.specs.declared.values.Value.{Value}
 use Rattle.cell_values.specs.Addresses.{same_addr}
 use Rattle.demand_spec.specs.Listed.{value_in}
+use Rattle.demand_spec.specs.Rounds.{put}
 
 is_eq-then : (o p : Ordering) → is_eq (ordering_then o p) ≡ (is_eq o && is_eq p)
 is_eq-then Less p = refl
@@ -25,3 +26,7 @@ same_cmp a b =
 pub lookup_is : (es : List (Addr × Value)) (a : Addr) → lookup (λ k. is_eq ((addr_ord.ghosts).cmp a k)) es ≡ value_in es a
 lookup_is [] a = refl
 lookup_is (e ∷ es) a = λ i. cond (same_cmp a e.0 i) (Some e.1) (lookup_is es a i)
+
+-- a value on for a cell
+pub put_is : (m n : List (Addr × Value)) (at : Addr) (v : Value) → ((q : Addr) → lookup (λ k. is_eq ((addr_ord.ghosts).cmp q k)) n ≡ cond (is_eq ((addr_ord.ghosts).cmp at q)) (Some v) (lookup (λ k. is_eq ((addr_ord.ghosts).cmp q k)) m)) → value_in n ≡ put at v (value_in m)
+put_is m n at v h = λ i q. (sym (lookup_is n q) ∙ h q ∙ (λ j. cond (same_cmp at q j) (Some v) (lookup_is m q j))) i

@@ -106,7 +106,7 @@ known_in_le : (e : Known) (cs : List Addr) → known_in e cs ≤ length cs
 known_in_le e [] = omega arith
 known_in_le e (c ∷ cs) = one_more_le (e c) (known_in e cs) (length cs) (known_in_le e cs)
 
-abbrev SameOn : Known → Known → List Addr → Type 0
+abbrev pub SameOn : Known → Known → List Addr → Type 0
 SameOn e f cs = (c : Addr) → In c cs → e c ≡ f c
 
 -- either nothing is new, or there are more
@@ -166,10 +166,10 @@ rounds_nothing : (b : Book) (k : ℕ) (a : Addr) → formula_at b a ≡ None →
 rounds_nothing b zero a h = refl
 rounds_nothing b (suc k) a h = round_nothing b (rounds b k) a h
 
-abbrev Ended : Book → ℕ → Type 0
+abbrev pub Ended : Book → ℕ → Type 0
 Ended b k = rounds b (suc k) ≡ rounds b k
 
-ended_from : (b : Book) (k : ℕ) → SameOn (rounds b k) (rounds b (suc k)) (formulas b) → Ended b k
+pub ended_from : (b : Book) (k : ℕ) → SameOn (rounds b k) (rounds b (suc k)) (formulas b) → Ended b k
 ended_from b k s = λ i a. all a i
   where
     at_cell : (a : Addr) (o : Option Expr) → formula_at b a ≡ o → rounds b (suc k) a ≡ rounds b k a

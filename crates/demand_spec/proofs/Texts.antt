@@ -1,5 +1,5 @@
 -- The values that looks and formulas give have text numbers of the texts.
-use Rattle.std.proofs.Common.{◌≡◌, ◌<◌, Bool, true, false, cond, length, Option, Some, None, Result, Ok, Err, IfOk, List, [], ◌∷◌, refl, sym, ap, ◌∙◌, subst}
+use Rattle.std.proofs.Common.{◌≡◌, ◌<◌, ℕ, zero, suc, Bool, true, false, cond, length, Option, Some, None, Result, Ok, Err, IfOk, List, [], ◌∷◌, refl, sym, ap, ◌∙◌, subst}
 use Rattle.cell_values.specs.declared.address.Addr.{Addr}
 use Rattle.cell_values.specs.declared.values.Value.{Value}
 use Rattle.cell_values.specs.Addresses.{same_addr}
@@ -11,16 +11,17 @@ use Rattle.demand_spec.specs.declared.Asked.{Asked}
 use Rattle.demand_spec.specs.declared.Asked.TheVariants.{Val, Needs}
 use Rattle.demand_spec.specs.Plan.{Plan, Give, Demand, after, run}
 use Rattle.demand_spec.specs.Formula.{plan}
-use Rattle.demand_spec.specs.Book.{Book, Content, Known, cell_in, formula_of, own_of, formula_at, own, look_at, look}
+use Rattle.demand_spec.specs.Book.{Book, Content, Known, cell_in, formula_of, own_of, formula_at, own, look_at, look, ask, ask_formula, ask_cell, value_given, formulas, finished, rounds}
 use Rattle.demand_spec.specs.TextNumbers.{TextBelow, TextsBelow}
-use Rattle.demand_spec.specs.Listed.{value_in, IsFormulaOf, IsContentOf, AreCellsOf, AreValuesOf}
+use Rattle.demand_spec.specs.Listed.{value_in, IsFormulaOf, IsContentOf, AreCellsOf, AreKnownOf}
 use Rattle.demand_spec.specs.Asks.{any_value, value_or_end}
-use Rattle.demand_spec.specs.Stage.{Sight, IsSight, book_of, look_on, ask_on}
+use Rattle.demand_spec.specs.Given.{IsAnswerOf}
+use Rattle.demand_spec.specs.Stage.{Sight, IsSight, book_with, look_on, ask_on}
 use Rattle.demand_spec.proofs.Alike.{Alike, plan_alike}
 
 -- a cell's content, and a known value
 
-content_text : (ts : Texts) (cs : List (Addr × Content)) (a : Addr) → AreCellsOf ts cs → (x : Content) → cell_in cs a ≡ Some x → IsContentOf ts x
+pub content_text : (ts : Texts) (cs : List (Addr × Content)) (a : Addr) → AreCellsOf ts cs → (x : Content) → cell_in cs a ≡ Some x → IsContentOf ts x
 content_text ts [] a h x e = cc
 content_text ts (c ∷ cs) a h x e = go (same_addr a c.0) e (content_text ts cs a h.1 x)
   where
@@ -28,28 +29,23 @@ content_text ts (c ∷ cs) a h x e = go (same_addr a c.0) e (content_text ts cs 
     go true e k = (let same : c.1 ≡ x = cc in subst (IsContentOf ts) same h.0)
     go false e k = k e
 
-known_text : (ts : Texts) (ks : List (Addr × Value)) (a : Addr) → AreValuesOf ts ks → (v : Value) → value_in ks a ≡ Some v → IsValueOf ts v
-known_text ts [] a h v e = cc
-known_text ts (k ∷ ks) a h v e = go (same_addr a k.0) e (known_text ts ks a h.1 v)
-  where
-    go : (q : Bool) → cond q (Some k.1) (value_in ks a) ≡ Some v → (value_in ks a ≡ Some v → IsValueOf ts v) → IsValueOf ts v
-    go true e m = (let same : k.1 ≡ v = cc in subst (IsValueOf ts) same h.0)
-    go false e m = m e
-
-looked_text : (s : Sight) → IsSight s → (a : Addr) (v : Value) → look_on s a ≡ Val v → IsValueOf s.texts v
+look_below : (cells : List (Addr × Content)) (ts : Texts) (e : Known) → AreCellsOf ts cells → AreKnownOf ts e → (a : Addr) (v : Value) → look (book_with cells ts) e a ≡ Val v → IsValueOf ts v
 unfolding formula_at own
-looked_text s h a v e = by_cell (cell_in s.cells a) refl e
+look_below cells ts e h k a v q = by_cell (cell_in cells a) refl q
   where
-    by_known : (t : Expr) (k : Option Value) → value_in s.known a ≡ k → look_at (Some t) Value.Blank k a ≡ Val v → IsValueOf s.texts v
-    by_known t (Some w) p q = (let same : w ≡ v = cc in subst (IsValueOf s.texts) same (known_text s.texts s.known a h.known_of w p))
+    by_known : (t : Expr) (o : Option Value) → e a ≡ o → look_at (Some t) Value.Blank o a ≡ Val v → IsValueOf ts v
+    by_known t (Some w) p q = (let same : w ≡ v = cc in subst (IsValueOf ts) same (k a w p))
     by_known t None p q = cc
 
-    by_cell : (o : Option Content) → cell_in s.cells a ≡ o → look_at (formula_of o) (own_of o) (value_in s.known a) a ≡ Val v → IsValueOf s.texts v
-    by_cell None p q = (let same : Value.Blank ≡ v = cc in subst (IsValueOf s.texts) same tt)
-    by_cell (Some (Content.Number n)) p q = (let same : Value.Number n ≡ v = cc in subst (IsValueOf s.texts) same tt)
-    by_cell (Some (Content.Text t)) p q = (let same : Value.Text t ≡ v = cc in subst (IsValueOf s.texts) same (content_text s.texts s.cells a h.cells_of (Content.Text t) p))
-    by_cell (Some (Content.Truth t)) p q = (let same : Value.Bool t ≡ v = cc in subst (IsValueOf s.texts) same tt)
-    by_cell (Some (Content.Formula t)) p q = by_known t (value_in s.known a) refl q
+    by_cell : (o : Option Content) → cell_in cells a ≡ o → look_at (formula_of o) (own_of o) (e a) a ≡ Val v → IsValueOf ts v
+    by_cell None p q = (let same : Value.Blank ≡ v = cc in subst (IsValueOf ts) same tt)
+    by_cell (Some (Content.Number n)) p q = (let same : Value.Number n ≡ v = cc in subst (IsValueOf ts) same tt)
+    by_cell (Some (Content.Text t)) p q = (let same : Value.Text t ≡ v = cc in subst (IsValueOf ts) same (content_text ts cells a h (Content.Text t) p))
+    by_cell (Some (Content.Truth t)) p q = (let same : Value.Bool t ≡ v = cc in subst (IsValueOf ts) same tt)
+    by_cell (Some (Content.Formula t)) p q = by_known t (e a) refl q
+
+looked_text : (s : Sight) → IsSight s → (a : Addr) (v : Value) → look_on s a ≡ Val v → IsValueOf s.texts v
+looked_text s h = look_below s.cells s.texts (value_in s.known) h.cells_of h.known_of
 
 -- where a value was found, it is one of these texts'
 abbrev FoundOf : Texts → Result Value Asked → Type 0
@@ -88,8 +84,11 @@ run_text L ts l h (Demand a f) (Demand b g) k v e = go (l a) refl e (λ w t q. r
     go (Val w) p q m = m w (h a w p) q
     go (Needs x) p q m = cc
 
+ask_below : (cells : List (Addr × Content)) (ts : Texts) (e : Known) → AreCellsOf ts cells → AreKnownOf ts e → (at : Addr) (t : Expr) → IsFormulaOf ts t → (v : Value) → ask (book_with cells ts) e at t ≡ Val v → IsValueOf ts v
+ask_below cells ts e h m at t k v q = run_text (mentions at t) ts (look (book_with cells ts) e) (look_below cells ts e h m) (plan ts at t) (plan ts at t) (plan_alike (mentions at t) (λ i. i < length ts) ts ts (λ i m. refl) at t k (λ x m. m)) v q
+
 asked_text : (s : Sight) → IsSight s → (at : Addr) (t : Expr) → IsFormulaOf s.texts t → (v : Value) → ask_on s at t ≡ Val v → IsValueOf s.texts v
-asked_text s h at t k v e = run_text (mentions at t) s.texts (look_on s) (looked_text s h) (plan s.texts at t) (plan s.texts at t) (plan_alike (mentions at t) (λ i. i < length s.texts) s.texts s.texts (λ i m. refl) at t k (λ x m. m)) v e
+asked_text s h = ask_below s.cells s.texts (value_in s.known) h.cells_of h.known_of
 
 pub value_text : (s : Sight) → IsSight s → (at : Addr) (t : Expr) → IsFormulaOf s.texts t → (r : Result Value Asked) → r ≡ value_or_end (ask_on s at t) → IfOk r (IsValueOf s.texts)
 value_text s h at t k r e = go (ask_on s at t) refl r e
@@ -98,3 +97,32 @@ value_text s h at t k r e = go (ask_on s at t) refl r e
     go (Val (Value.Error c)) p r q = subst (FoundOf s.texts) (sym q) tt
     go (Val v) p r q = subst (FoundOf s.texts) (sym q) (asked_text s h at t k v p)
     go (Needs x) p r q = subst (FoundOf s.texts) (sym q) tt
+
+-- the values of every round
+
+given_text : (cells : List (Addr × Content)) (ts : Texts) (e : Known) → AreCellsOf ts cells → AreKnownOf ts e → (a : Addr) (x : Option Content) → cell_in cells a ≡ x → (v : Value) → value_given (ask_formula (book_with cells ts) e a (formula_of x)) ≡ Some v → IsValueOf ts v
+given_text cells ts e h k a None p v q = cc
+given_text cells ts e h k a (Some (Content.Number n)) p v q = cc
+given_text cells ts e h k a (Some (Content.Text n)) p v q = cc
+given_text cells ts e h k a (Some (Content.Truth n)) p v q = cc
+given_text cells ts e h k a (Some (Content.Formula t)) p v q = go (ask (book_with cells ts) e a t) refl q
+  where
+    go : (r : Asked) → ask (book_with cells ts) e a t ≡ r → value_given (Some r) ≡ Some v → IsValueOf ts v
+    go (Val w) p2 q = (let same : w ≡ v = cc in ask_below cells ts e h k a t (content_text ts cells a h (Content.Formula t) p) v (p2 ∙ ap Val same))
+    go (Needs x) p2 q = cc
+
+rounds_below : (cells : List (Addr × Content)) (ts : Texts) → AreCellsOf ts cells → (k : ℕ) → AreKnownOf ts (rounds (book_with cells ts) k)
+unfolding ask_cell formula_at
+rounds_below cells ts h zero = λ a v q. cc
+rounds_below cells ts h (suc k) = λ a v q. given_text cells ts (rounds (book_with cells ts) k) h (rounds_below cells ts h k) a (cell_in cells a) refl v q
+
+pub rounds_text : (cells : List (Addr × Content)) (ts : Texts) (k : ℕ) (e : Known) → AreCellsOf ts cells → e ≡ rounds (book_with cells ts) k → AreKnownOf ts e
+rounds_text cells ts k e h p = subst (AreKnownOf ts) (sym p) (rounds_below cells ts h k)
+
+pub finished_text : (cells : List (Addr × Content)) (ts : Texts) (e : Known) → AreCellsOf ts cells → e ≡ finished (book_with cells ts) → AreKnownOf ts e
+unfolding finished
+finished_text cells ts e h p = rounds_text cells ts (length (formulas (book_with cells ts))) e h p
+
+pub answer_text : (s : Sight) → IsSight s → (at : Addr) (t : Expr) → IsFormulaOf s.texts t → (r : Asked) → r ≡ ask_on s at t → IsAnswerOf s.texts r
+answer_text s h at t k (Val v) e = asked_text s h at t k v (sym e)
+answer_text s h at t k (Needs x) e = tt

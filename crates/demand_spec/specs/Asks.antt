@@ -97,10 +97,10 @@ fold_looks l k t [] = Ok t
 fold_looks l k t (a ∷ rest) = and_on (any_value (l a)) (λ v. and_on (or_fails (taken k t true v)) (λ u. fold_looks l k u rest))
 
 -- a fold over an argument: the cells of a range, or one value
-abbrev pub fold_one : Book → Known → Addr → FoldKind → Total → Place → Expr → Result Total Asked
-fold_one b e at k t (Cells r) x = fold_looks (look b e) k t (walk r)
-fold_one b e at k t Bad x = fails_with Code.Ref
-fold_one b e at k t Nowhere x = and_on (any_value (ask b e at x)) (λ v. or_fails (taken k t false v))
+abbrev pub fold_part : (Addr → Asked) → FoldKind → Total → Place → Asked → Result Total Asked
+fold_part l k t (Cells r) value = fold_looks l k t (walk r)
+fold_part l k t Bad value = fails_with Code.Ref
+fold_part l k t Nowhere value = and_on (any_value value) (λ v. or_fails (taken k t false v))
 
 -- a fold over arguments
 abbrev pub ask_fold : Book → Known → Addr → FoldKind → Total → Exprs → Asked

@@ -8,3 +8,5 @@ pub mod Stage
 pub mod Asks
 pub mod Recursion
 pub mod Places
+pub mod Rounds
+pub mod Given

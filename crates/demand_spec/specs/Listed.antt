@@ -1,5 +1,5 @@
 -- Books and values as lists in order.
-use Rattle.std.specs.Prelude.{Option, Some, None, cond, ◌<◌, length, List, [], ◌∷◌}
+use Rattle.std.specs.Prelude.{◌≡◌, Option, Some, None, cond, ◌<◌, length, List, [], ◌∷◌}
 use Rattle.cell_values.specs.declared.address.Addr.{Addr}
 use Rattle.cell_values.specs.declared.interned.TextId.{TextId}
 use Rattle.cell_values.specs.declared.values.Shown.{Shown}
@@ -77,6 +77,6 @@ abbrev pub AreCellsOf : Texts → List (Addr × Content) → Type 0
 AreCellsOf ts [] = Unit {0}
 AreCellsOf ts (c ∷ rest) = IsContentOf ts c.1 × AreCellsOf ts rest
 
-abbrev pub AreValuesOf : Texts → List (Addr × Value) → Type 0
-AreValuesOf ts [] = Unit {0}
-AreValuesOf ts (k ∷ rest) = IsValueOf ts k.1 × AreValuesOf ts rest
+-- the known values have such text numbers
+abbrev pub AreKnownOf : Texts → Known → Type 0
+AreKnownOf ts e = (a : Addr) (v : Value) → e a ≡ Some v → IsValueOf ts v

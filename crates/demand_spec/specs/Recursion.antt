@@ -20,7 +20,7 @@ use Rattle.builtin_functions.specs.Folds.{Total, end_value}
 use Rattle.demand_spec.specs.declared.Asked.TheVariants.{Val}
 use Rattle.demand_spec.specs.Formula.{from_one, op_of, sign_of}
 use Rattle.demand_spec.specs.Book.{Book, Known, look, ask}
-use Rattle.demand_spec.specs.Asks.{on_with, any_value, value_or_end, condition_or_end, number_or_end, cells_or_end, up_to_or_end, found_or_end, if_error, ask_chosen, fold_one, ask_fold, search_looks}
+use Rattle.demand_spec.specs.Asks.{on_with, any_value, value_or_end, condition_or_end, number_or_end, cells_or_end, up_to_or_end, found_or_end, if_error, ask_chosen, fold_part, ask_fold, search_looks}
 
 -- a literal is its value
 abbrev pub LiteralGives : Type 0
@@ -95,7 +95,7 @@ ChooseGives = (b : Book) (e : Known) (at : Addr) (t : Expr) (rest : Exprs) → a
 
 -- SUM, MIN, MAX and COUNT: the first argument, and then the same of the others
 abbrev pub FoldGives : Type 0
-FoldGives = (b : Book) (e : Known) (at : Addr) (k : FoldKind) (t : Total) (x : Expr) (rest : Exprs) → ask_fold b e at k t (More x rest) ≡ on_with (fold_one b e at k t (place_of at x) x) (λ u. ask_fold b e at k u rest)
+FoldGives = (b : Book) (e : Known) (at : Addr) (k : FoldKind) (t : Total) (x : Expr) (rest : Exprs) → ask_fold b e at k t (More x rest) ≡ on_with (fold_part (look b e) k t (place_of at x) (ask b e at x)) (λ u. ask_fold b e at k u rest)
 
 -- INDEX
 abbrev pub IndexGives : Type 0

@@ -6,21 +6,24 @@ use Rattle.cell_values.specs.Texts.{Texts}
 use Rattle.formula_grammar.specs.Expr.{Expr}
 use Rattle.demand_spec.specs.declared.Asked.{Asked}
 use Rattle.demand_spec.specs.Book.{Book, Content, Known, look, ask}
-use Rattle.demand_spec.specs.Listed.{InOrder, value_in, AreCellsOf, AreValuesOf}
+use Rattle.demand_spec.specs.Listed.{value_in, AreCellsOf, AreKnownOf}
 
 pub record Sight : Type 0 where
   pub cells : List (Addr × Content)
   pub texts : Texts
   pub known : List (Addr × Value)
 
--- the cells are in order, and all text numbers are the texts'
+-- all text numbers are the texts'
 pub record IsSight (s : Sight) : Type 0 where
-  pub in_order : InOrder s.cells
   pub cells_of : AreCellsOf s.texts s.cells
-  pub known_of : AreValuesOf s.texts s.known
+  pub known_of : AreKnownOf s.texts (value_in s.known)
+
+-- a book with its texts
+abbrev pub book_with : List (Addr × Content) → Texts → Book
+book_with cells texts = record { cells = cells; texts = texts }
 
 abbrev pub book_of : Sight → Book
-book_of s = record { cells = s.cells; texts = s.texts }
+book_of s = book_with s.cells s.texts
 
 abbrev pub known_of : Sight → Known
 known_of s = value_in s.known

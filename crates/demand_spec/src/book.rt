@@ -2,7 +2,7 @@
 ghost use Rattle.std.specs.Prelude.{◌≡◌, [], ◌∷◌, ◌++◌, OnOk, OnErr, option_map, option_copied};
 ghost use Rattle.cell_values.specs.Addresses.{same_addr, IsOnSheet};
 ghost use Rattle.demand_spec.specs.Book.{cell_in};
-ghost use Rattle.demand_spec.specs.Listed.{content_of, contents, IsAfterAll, IsSoundAt};
+ghost use Rattle.demand_spec.specs.Listed.{content_of, contents, InOrder, IsAfterAll, IsSoundAt};
 
 use crate::Cell;
 use cell_values::Addr;
@@ -49,6 +49,14 @@ impl PlainBook {
         }
     }
 
+    /// The cells in order.
+    pub(crate) fn cells(&self) -> &[(Addr, Cell)]
+        ensures same { contents result.now ≡ self.now }
+        ensures in_order { InOrder self.now }
+    {
+        &self.cells
+    }
+
     /// The cell at an address, `None` where the book has none.
     pub(crate) fn get(&self, at: Addr) -> Option<&Cell>
         ensures { option_map content_of (option_copied result) ≡ cell_in self.now at }
@@ -82,7 +90,8 @@ fn find_cell(cells: &[(Addr, Cell)], at: Addr) -> Option<&Cell>
     None
 }
 
-fn is_same(a: Addr, b: Addr) -> bool
+/// Whether two addresses are the same.
+pub(crate) fn is_same(a: Addr, b: Addr) -> bool
     ensures { result ≡ same_addr a b }
 {
     a.sheet == b.sheet && a.row == b.row && a.col == b.col

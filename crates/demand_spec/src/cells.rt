@@ -2,16 +2,17 @@
 ghost use Rattle.std.specs.Prelude.{◌≡◌, ◌+◌, ◌<◌, ◌≤◌, ◌^◌, IfOk, IfSome, IsFalse};
 ghost use Rattle.builtin_functions.specs.Tables.{IsValueOf, is_error};
 ghost use Rattle.cell_values.specs.Areas.{column_of, height, width, row_of, walk, IsArea};
-ghost use Rattle.demand_spec.specs.Asks.{any_value, fold_looks, search_looks};
+ghost use Rattle.demand_spec.specs.Asks.{fold_looks, fold_part, search_looks};
 ghost use Rattle.demand_spec.specs.Formula.{is_found};
+ghost use Rattle.demand_spec.specs.Places.{place_seen, HasArea};
 
 use crate::Asked;
-use crate::ends::take;
-use crate::places::{cell, height, width};
+use crate::ends::{any_value, fails, take};
+use crate::places::{Place, cell, height, width};
 use crate::stage::Stage;
 use builtin_functions::FoldKind;
 use builtin_functions::operators::same;
-use cell_values::{Area, Int, Texts, Value};
+use cell_values::{Area, Code, Int, Texts, Value};
 
 /// Whether a cell's value is the one that is searched. An error or Blank is passed over.
 fn is_found(key: Value, value: Value, texts: &Texts) -> bool
@@ -66,6 +67,24 @@ impl<'a> Stage<'a> {
             total = self.fold_row(kind, total, area, i)?;
         }
         Ok(total)
+    }
+
+    /// A fold over one argument: the cells of a range or a bare reference, or one value.
+    pub(crate) fn fold_part(
+        &self,
+        kind: FoldKind,
+        total: Option<Int>,
+        place: Place,
+        value: Asked,
+    ) -> Result<Option<Int>, Asked>
+        requires { HasArea place }
+        ensures { result ≡ fold_part (look_on self.now) kind total (place_seen place) value }
+    {
+        match place {
+            Place::Cells(area) => self.fold_area(kind, total, area),
+            Place::Bad => Err(fails(Code::Ref)),
+            Place::Nowhere => take(kind, total, false, any_value(value)?),
+        }
     }
 
     /// The place in row `i` of an area of the first cell that has the key, the cells being numbered from

@@ -4,17 +4,23 @@
 ghost use Rattle.demand_spec.specs.Laws.{AskGrows, RoundsEnd, NeedIsThere, NeedIsMentioned, StackCloses, Carried, LoopsAreFound, PendingIsClosed, LoopInClosed, ShowsSame};
 ghost use Rattle.demand_spec.specs.Recursion.{LiteralGives, ReferenceGives, SignGives, OperatorGives, ModGives, QuotientGives, AbsGives, IfGives, ShortIfGives, AndGives, OrGives, NoneGive, NotGives, IfErrorGives, IsErrorGives, ChooseGives, FoldGives, FoldEnds, IndexGives, MatchGives, VLookupGives, HLookupGives};
 
+mod ask;
 pub mod book;
+mod calls;
 mod cells;
 mod ends;
+mod given;
 mod places;
+pub mod slow;
 mod stage;
 mod steps;
 pub mod view;
+mod whole;
 
 pub use book::PlainBook;
 use cell_values::{Addr, Int, TextId, Value};
 use formula_grammar::Tree;
+pub use slow::slow_shown;
 pub use view::{BookView, Results};
 
 /// What a cell holds.

@@ -6,7 +6,7 @@ ghost use Rattle.formula_grammar.specs.Expr.{expr_of};
 ghost use Rattle.formula_grammar.specs.Mentions.{place_of};
 ghost use Rattle.formula_grammar.specs.References.{part_at, up_to, resolve};
 ghost use Rattle.demand_spec.specs.Asks.{cells_or_end, up_to_or_end};
-ghost use Rattle.demand_spec.specs.Places.{place_seen, HasArea};
+ghost use Rattle.demand_spec.specs.Places.{seen, place_seen, HasArea};
 
 use crate::Asked;
 use crate::ends::fails;
@@ -85,7 +85,7 @@ fn between(a: Addr, b: Addr) -> Area
 /// Where an argument stands.
 #[tactic(auto, unfolding(formula_grammar::specs::References::resolve))]
 pub(crate) fn place_at(tree: &Tree, at: Addr) -> Place
-    ensures same { place_seen result ≡ place_of at (expr_of tree.now) }
+    ensures same { result ≡ seen (place_of at (expr_of tree.now)) }
     ensures within { HasArea result }
 {
     match tree {
@@ -103,11 +103,12 @@ pub(crate) fn place_at(tree: &Tree, at: Addr) -> Place
 }
 
 /// The cells of an argument, `#REF!` where it names none.
-pub(crate) fn cells(tree: &Tree, at: Addr) -> Result<Area, Asked>
-    ensures same { result ≡ cells_or_end (place_of at (expr_of tree.now)) }
+pub(crate) fn cells(place: Place) -> Result<Area, Asked>
+    requires { HasArea place }
+    ensures same { result ≡ cells_or_end (place_seen place) }
     ensures within { IfOk result IsArea }
 {
-    match place_at(tree, at) {
+    match place {
         Place::Cells(area) => Ok(area),
         _ => Err(fails(Code::Ref)),
     }

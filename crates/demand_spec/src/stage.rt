@@ -2,8 +2,8 @@
 ghost use Rattle.std.specs.Prelude.{◌≡◌, option_map, option_copied, IfOk};
 ghost use Rattle.builtin_functions.specs.Tables.{IsValueOf};
 ghost use Rattle.demand_spec.specs.Asks.{any_value};
-ghost use Rattle.demand_spec.specs.Book.{cell_in};
-ghost use Rattle.demand_spec.specs.Listed.{content_of, value_in};
+ghost use Rattle.demand_spec.specs.Book.{ask_cell, cell_in};
+ghost use Rattle.demand_spec.specs.Listed.{content_of, value_in, AreCellsOf, AreKnownOf};
 
 use crate::ends::any_value;
 use crate::{Asked, Cell, PlainBook};
@@ -12,6 +12,7 @@ use std::collections::BTreeMap;
 use std::marker::Model;
 
 /// A book with its texts, and the values of formula cells that are known so far.
+#[derive(Drop)]
 pub(crate) struct Stage<'a> {
     book: &'a PlainBook,
     texts: &'a Texts,
@@ -36,7 +37,38 @@ impl<'a> Model for Stage<'a> {
 }
 
 impl<'a> Stage<'a> {
-    ghost use Rattle.demand_spec.specs.Stage.{look_on, IsSight as IsSeen};
+    ghost use Rattle.demand_spec.specs.Stage.{book_of, known_of, look_on, IsSight as IsSeen};
+
+    /// A book over the values that are known of it.
+    pub(crate) fn over(
+        book: &'a PlainBook,
+        texts: &'a Texts,
+        known: &'a BTreeMap<Addr, Value>,
+    ) -> Stage<'a>
+        requires cells { AreCellsOf texts.now book.now }
+        requires known { AreKnownOf texts.now (value_in known.now.entries) }
+        ensures { result ≡ record { cells = book.now; texts = texts.now; known = known.now.entries } }
+    {
+        Stage { book, texts, known }
+    }
+
+    /// The value that is known of a cell.
+    pub(crate) fn known(&self, at: Addr) -> Option<Value>
+        ensures { result ≡ known_of self.now at }
+    {
+        known_value(self.known, at)
+    }
+
+    /// What the formula of a cell gives, `None` at a cell without one.
+    #[tactic(auto, unfolding(crate::specs::Book::ask_cell, crate::specs::Book::formula_at))]
+    pub(crate) fn ask_cell(&self, at: Addr) -> Option<Asked>
+        ensures { result ≡ ask_cell (book_of self.now) (known_of self.now) at }
+    {
+        match self.book.get(at) {
+            Some(Cell::Formula(tree)) => Some(self.ask(tree, at)),
+            _ => None,
+        }
+    }
 
     /// What a demand of a cell gives.
     #[tactic(auto, unfolding(crate::specs::Book::formula_at, crate::specs::Book::own))]

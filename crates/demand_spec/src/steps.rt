@@ -1,65 +1,55 @@
-//! The steps of INDEX, MATCH, VLOOKUP and HLOOKUP behind the values that they take.
+//! INDEX, MATCH, VLOOKUP and HLOOKUP, step by step.
 ghost use Rattle.std.specs.Prelude.{◌≡◌, IsFalse};
 ghost use Rattle.builtin_functions.specs.Tables.{IsValueOf, is_error};
-ghost use Rattle.demand_spec.specs.Asks.{answer_of, index_steps, match_steps, v_lookup_steps, h_lookup_steps};
-ghost use Rattle.formula_grammar.specs.Expr.{expr_of};
-ghost use Rattle.formula_grammar.specs.Mentions.{place_of};
+ghost use Rattle.demand_spec.specs.Asks.{answer_of, on_with, value_or_end, index_steps, match_steps, v_lookup_steps, h_lookup_steps};
+ghost use Rattle.demand_spec.specs.Given.{IsAnswerOf, lookup_of, match_of};
+ghost use Rattle.demand_spec.specs.Places.{place_seen, HasArea};
 
 use crate::Asked;
-use crate::ends::{found, number};
-use crate::places::{cell, cells, height, up_to_most, width};
+use crate::ends::{found, no_error, number};
+use crate::places::{Place, cell, cells, height, up_to_most, width};
 use crate::stage::Stage;
-use cell_values::{Addr, Int, Value};
-use formula_grammar::Tree;
+use cell_values::{Int, Value};
 
 impl<'a> Stage<'a> {
     ghost use Rattle.demand_spec.specs.Stage.{look_on};
 
     /// The value of the cell at a row and a column of a range.
     #[tactic(auto, using(crate::proofs::Asks::answer_any))]
-    pub(crate) fn index(
-        &self,
-        range: &Tree,
-        row: Value,
-        col: Value,
-        at: Addr,
-    ) -> Result<Value, Asked>
-        ensures { answer_of result ≡ index_steps (look_on self.now) row col (place_of at (expr_of range.now)) }
+    fn index_in(&self, range: Place, row: Value, col: Value) -> Result<Value, Asked>
+        requires { HasArea range }
+        ensures { answer_of result ≡ index_steps (look_on self.now) row col (place_seen range) }
     {
         let row = number(row)?;
         let col = number(col)?;
-        let area = cells(range, at)?;
+        let area = cells(range)?;
         let i = up_to_most(height(area), row)?;
         let j = up_to_most(width(area), col)?;
         self.demand(cell(area, i, j))
     }
 
     /// The number of the first cell of a range that has the key, from 1.
-    pub(crate) fn find(&self, key: Value, range: &Tree, at: Addr) -> Result<Value, Asked>
+    fn find(&self, key: Value, range: Place) -> Result<Value, Asked>
+        requires range { HasArea range }
         requires key { IsValueOf self.now.texts key }
         requires no_error { IsFalse (is_error key) }
-        ensures { answer_of result ≡ match_steps (look_on self.now) self.now.texts key (place_of at (expr_of range.now)) }
+        ensures { answer_of result ≡ match_steps (look_on self.now) self.now.texts key (place_seen range) }
     {
-        let area = cells(range, at)?;
+        let area = cells(range)?;
         let n = found(self.search_area(key, area)?)?;
         Ok(Value::Number(Int::from(n) + 1))
     }
 
     /// The value in a column of a range, in the row whose first cell has the key.
     #[tactic(auto, using(crate::proofs::Asks::answer_any))]
-    pub(crate) fn look_down(
-        &self,
-        key: Value,
-        range: &Tree,
-        col: Value,
-        at: Addr,
-    ) -> Result<Value, Asked>
+    fn look_down(&self, key: Value, range: Place, col: Value) -> Result<Value, Asked>
+        requires range { HasArea range }
         requires key { IsValueOf self.now.texts key }
         requires no_error { IsFalse (is_error key) }
-        ensures { answer_of result ≡ v_lookup_steps (look_on self.now) self.now.texts key col (place_of at (expr_of range.now)) }
+        ensures { answer_of result ≡ v_lookup_steps (look_on self.now) self.now.texts key col (place_seen range) }
     {
         let col = number(col)?;
-        let area = cells(range, at)?;
+        let area = cells(range)?;
         let j = up_to_most(width(area), col)?;
         let i = found(self.search_column(key, area)?)?;
         self.demand(cell(area, i, j))
@@ -67,21 +57,61 @@ impl<'a> Stage<'a> {
 
     /// The value in a row of a range, in the column whose first cell has the key.
     #[tactic(auto, using(crate::proofs::Asks::answer_any))]
-    pub(crate) fn look_along(
-        &self,
-        key: Value,
-        range: &Tree,
-        row: Value,
-        at: Addr,
-    ) -> Result<Value, Asked>
+    fn look_along(&self, key: Value, range: Place, row: Value) -> Result<Value, Asked>
+        requires range { HasArea range }
         requires key { IsValueOf self.now.texts key }
         requires no_error { IsFalse (is_error key) }
-        ensures { answer_of result ≡ h_lookup_steps (look_on self.now) self.now.texts key row (place_of at (expr_of range.now)) }
+        ensures { answer_of result ≡ h_lookup_steps (look_on self.now) self.now.texts key row (place_seen range) }
     {
         let row = number(row)?;
-        let area = cells(range, at)?;
+        let area = cells(range)?;
         let i = up_to_most(height(area), row)?;
         let j = found(self.search_row(key, area, 0, 0)?)?;
         self.demand(cell(area, i, j))
+    }
+
+    /// INDEX: the row, the column, and then the cell that stands there in the range.
+    pub(crate) fn index(&self, range: Place, row: Asked, col: Asked) -> Result<Value, Asked>
+        requires { HasArea range }
+        ensures { answer_of result ≡ on_with (value_or_end row) (λ v. on_with (value_or_end col) (λ w. index_steps (look_on self.now) v w (place_seen range))) }
+    {
+        let row = no_error(row)?;
+        let col = no_error(col)?;
+        self.index_in(range, row, col)
+    }
+
+    /// MATCH: the key, and then the cells of the range up to the first that is equal.
+    #[tactic(auto, using(crate::proofs::Rules::value_is_of))]
+    pub(crate) fn position(&self, key: Asked, range: Place) -> Result<Value, Asked>
+        requires key { IsAnswerOf self.now.texts key }
+        requires range { HasArea range }
+        ensures { answer_of result ≡ match_of self.now key (place_seen range) }
+    {
+        let key = no_error(key)?;
+        self.find(key, range)
+    }
+
+    /// VLOOKUP: the key, the column, and then the cells of the first column up to the first that is equal.
+    #[tactic(auto, using(crate::proofs::Rules::value_is_of))]
+    pub(crate) fn v_lookup(&self, key: Asked, range: Place, col: Asked) -> Result<Value, Asked>
+        requires key { IsAnswerOf self.now.texts key }
+        requires range { HasArea range }
+        ensures { answer_of result ≡ lookup_of (v_lookup_steps (look_on self.now) self.now.texts) key (place_seen range) col }
+    {
+        let key = no_error(key)?;
+        let col = no_error(col)?;
+        self.look_down(key, range, col)
+    }
+
+    /// HLOOKUP: the same along the first row and down.
+    #[tactic(auto, using(crate::proofs::Rules::value_is_of))]
+    pub(crate) fn h_lookup(&self, key: Asked, range: Place, row: Asked) -> Result<Value, Asked>
+        requires key { IsAnswerOf self.now.texts key }
+        requires range { HasArea range }
+        ensures { answer_of result ≡ lookup_of (h_lookup_steps (look_on self.now) self.now.texts) key (place_seen range) row }
+    {
+        let key = no_error(key)?;
+        let row = no_error(row)?;
+        self.look_along(key, range, row)
     }
 }

@@ -1,0 +1,236 @@
+-- What rounds over a listed book know, and what its cells show.
+use Rattle.std.proofs.Common.{◌≡◌, ℕ, zero, suc, ◌+◌, ◌-◌, ◌<◌, ◌≤◌, Bool, true, false, cond, not, ◌&&◌, ◌||◌, eqb, ◌⊎◌, inl, inr, List, [], ◌∷◌, length, get_or, refl, sym, ap, ◌∙◌, subst, Option, Some, None, IsSome, is_some, option_and_then, Result, Ok, Err, IfOk, arith}
+use Rattle.std.proofs.lemmas.Bool.{cond-true, cond-false, false_from_ne_true, cases_Bool}
+use Rattle.std.specs.declared.alloc.AllocError.{AllocError}
+use Rattle.cell_values.specs.declared.address.Addr.{Addr}
+use Rattle.cell_values.specs.declared.values.Shown.{Shown}
+use Rattle.cell_values.specs.declared.values.Value.{Value}
+use Rattle.cell_values.specs.Addresses.{same_addr}
+use Rattle.cell_values.specs.Texts.{Texts}
+use Rattle.formula_grammar.specs.Expr.{Expr}
+use Rattle.formula_grammar.specs.declared.tree.Tree.{Tree}
+use Rattle.demand_spec.specs.declared.Cell.{Cell}
+use Rattle.demand_spec.specs.Book.{Book, Content, Known, cell_in, formula_of, formula_at, ask_formula, value_given, ask_cell, round, rounds, with_formula, formulas_in, formulas, finished, need, follow, is_at, returns, shown}
+use Rattle.demand_spec.specs.Laws.{In, Distinct, PartOf}
+use Rattle.demand_spec.specs.Listed.{content_of, contents, value_in, InOrder}
+use Rattle.demand_spec.specs.Rounds.{put, put_given, given_at, round_from, is_new, adds}
+use Rattle.demand_spec.proofs.Rounds.{Ended, SameOn, same_addr-true, same_addr-refl, ended_from, rounds_grow, rounds_stay}
+use Rattle.demand_spec.proofs.Cycles.{returns_enough}
+use Rattle.demand_spec.specs.Stage.{Sight, book_of, book_with, known_of}
+use Rattle.demand_spec.proofs.Ordered.{places, IsBook, distinct_from_order}
+
+eqb-sym : (m n : ℕ) → eqb m n ≡ eqb n m
+eqb-sym m n = grind arith
+
+same_addr-sym : (a b : Addr) → same_addr a b ≡ same_addr b a
+same_addr-sym a b = λ i. eqb-sym a.sheet b.sheet i && (eqb-sym a.row b.row i && eqb-sym a.col b.col i)
+
+-- the value of a round where it gives one, else what was there
+first_of : Option Value → Option Value → Option Value
+first_of (Some v) other = Some v
+first_of None other = other
+
+not_there : (cs : List (Addr × Content)) (a : Addr) → (In a (places cs) → ⊥) → cell_in cs a ≡ None
+not_there [] a n = refl
+not_there (c ∷ cs) a n = go (same_addr a c.0) refl (not_there cs a (λ k. n (inr k)))
+  where
+    go : (q : Bool) → same_addr a c.0 ≡ q → cell_in cs a ≡ None → cond q (Some c.1) (cell_in cs a) ≡ None
+    go true p k = absurd (n (inl (same_addr-true a c.0 p)))
+    go false p k = k
+
+round_listed : (b : Book) (e : Known) (cs : List (Addr × Content)) → Distinct (places cs) → (f : Known) (a : Addr) → round_from b e f cs a ≡ first_of (value_given (ask_formula b e a (formula_of (cell_in cs a)))) (f a)
+unfolding first_of
+round_listed b e [] d f a = refl
+round_listed b e (c ∷ cs) d f a = go (given_at b e c.0 c.1) refl (same_addr a c.0) refl (λ g. round_listed b e cs d.1 g a)
+  where
+    put_same : (v : Value) → same_addr a c.0 ≡ true → put c.0 v f a ≡ Some v
+    put_same v p = cond-true (same_addr c.0 a) (Some v) (f a) (same_addr-sym c.0 a ∙ p)
+
+    put_other : (v : Value) → same_addr a c.0 ≡ false → put c.0 v f a ≡ f a
+    put_other v p = cond-false (same_addr c.0 a) (Some v) (f a) (same_addr-sym c.0 a ∙ p)
+
+    -- the cell itself gives `o`
+    here : (o : Option Value) → given_at b e c.0 c.1 ≡ o → same_addr a c.0 ≡ true → value_given (ask_formula b e a (formula_of (Some c.1))) ≡ o
+    here o r p = subst (λ z. given_at b e z c.1 ≡ o) (sym (same_addr-true a c.0 p)) r
+
+    -- no later cell is the cell itself
+    later : same_addr a c.0 ≡ true → cell_in cs a ≡ None
+    later p = not_there cs a (λ m. d.0 (subst (λ z. In z (places cs)) (same_addr-true a c.0 p) m))
+
+    go : (o : Option Value) → given_at b e c.0 c.1 ≡ o → (q : Bool) → same_addr a c.0 ≡ q
+        → ((g : Known) → round_from b e g cs a ≡ first_of (value_given (ask_formula b e a (formula_of (cell_in cs a)))) (g a))
+        → round_from b e (put_given c.0 o f) cs a ≡ first_of (value_given (ask_formula b e a (formula_of (cond q (Some c.1) (cell_in cs a))))) (f a)
+    go (Some v) r true p k = k (put c.0 v f) ∙ ap (λ z. first_of (value_given (ask_formula b e a (formula_of z))) (put c.0 v f a)) (later p) ∙ put_same v p ∙ sym (ap (λ z. first_of z (f a)) (here (Some v) r p))
+    go None r true p k = k f ∙ ap (λ z. first_of (value_given (ask_formula b e a (formula_of z))) (f a)) (later p) ∙ sym (ap (λ z. first_of z (f a)) (here None r p))
+    go (Some v) r false p k = k (put c.0 v f) ∙ ap (first_of (value_given (ask_formula b e a (formula_of (cell_in cs a))))) (put_other v p)
+    go None r false p k = k f
+
+first_alone : (o : Option Value) → first_of o None ≡ o
+unfolding first_of
+first_alone (Some v) = refl
+first_alone None = refl
+
+-- one round over all cells
+pub round_is : (b : Book) (e : Known) → IsBook b.cells → round_from b e (λ a. None) b.cells ≡ round b e
+unfolding ask_cell formula_at
+round_is b e d = λ i a. (round_listed b e b.cells d (λ a. None) a ∙ first_alone (value_given (ask_formula b e a (formula_of (cell_in b.cells a))))) i
+
+-- a round that adds nothing is the last one
+
+or_first : (x y : Bool) → (x || y) ≡ false → x ≡ false
+or_first true y e = e
+or_first false y e = refl
+
+or_second : (x y : Bool) → (x || y) ≡ false → y ≡ false
+or_second true y e = cc
+or_second false y e = e
+
+nothing_new : (b : Book) (e : Known) (cs : List (Addr × Content)) (a : Addr) (x : Content) → adds b e cs ≡ false → cell_in cs a ≡ Some x → is_new (given_at b e a x) (e a) ≡ false
+nothing_new b e [] a x n h = cc
+nothing_new b e (c ∷ cs) a x n h = go (same_addr a c.0) refl h (nothing_new b e cs a x (or_second (is_new (given_at b e c.0 c.1) (e c.0)) (adds b e cs) n))
+  where
+    go : (q : Bool) → same_addr a c.0 ≡ q → cond q (Some c.1) (cell_in cs a) ≡ Some x → (cell_in cs a ≡ Some x → is_new (given_at b e a x) (e a) ≡ false) → is_new (given_at b e a x) (e a) ≡ false
+    go false p h k = k h
+    go true p h k =
+        let same : c.1 ≡ x = cc in
+        let here : a ≡ c.0 = same_addr-true a c.0 p in
+        subst (λ z. is_new (given_at b e z x) (e z) ≡ false) (sym here) (subst (λ z. is_new (given_at b e c.0 z) (e c.0) ≡ false) same (or_first (is_new (given_at b e c.0 c.1) (e c.0)) (adds b e cs) n))
+
+-- where nothing is new, the larger part has nothing more
+same_there : (x y : Option Value) → ((v : Value) → x ≡ Some v → y ≡ Some v) → is_new y x ≡ false → x ≡ y
+same_there (Some v) y h n = sym (h v refl)
+same_there None None h n = refl
+same_there None (Some w) h n = cc
+
+pub last_round : (b : Book) (k : ℕ) → adds b (rounds b k) b.cells ≡ false → Ended b k
+unfolding ask_cell formula_at
+last_round b k n = ended_from b k all
+  where
+    at_cell : (a : Addr) (o : Option Content) → cell_in b.cells a ≡ o → is_new (value_given (ask_formula b (rounds b k) a (formula_of o))) (rounds b k a) ≡ false
+    at_cell a None p = refl
+    at_cell a (Some x) p = nothing_new b (rounds b k) b.cells a x n p
+
+    at_round : (a : Addr) → is_new (rounds b (suc k) a) (rounds b k a) ≡ false
+    at_round a = at_cell a (cell_in b.cells a) refl
+
+    all : SameOn (rounds b k) (rounds b (suc k)) (formulas b)
+    all a m = same_there (rounds b k a) (rounds b (suc k) a) (rounds_grow b k a) (at_round a)
+
+ended_on : (b : Book) (k n : ℕ) → Ended b k → rounds b (n + k) ≡ rounds b k
+ended_on b k zero e = (let same : 0 + k ≡ k = omega arith in ap (rounds b) same)
+ended_on b k (suc n) e = (let same : suc n + k ≡ suc (n + k) = omega arith in ap (rounds b) same ∙ ap (round b) (ended_on b k n e) ∙ e)
+
+-- what is known after a round that adds nothing is what is finished
+pub last_is_finished : (b : Book) (k : ℕ) (e : Known) → e ≡ rounds b k → adds b e b.cells ≡ false → e ≡ finished b
+last_is_finished b k e h n =
+    let ended : Ended b k = last_round b k (subst (λ z. adds b z b.cells ≡ false) h n) in
+    let more : length (formulas b) + k ≡ k + length (formulas b) = omega arith in
+    h ∙ sym (ended_on b k (length (formulas b)) ended) ∙ rounds_stay b k (length (formulas b) + k) more
+
+length-formulas : (cs : List (Addr × Content)) → length (formulas_in cs) ≤ length cs
+length-formulas [] = omega arith
+length-formulas (c ∷ cs) = go (c.1) (length-formulas cs)
+  where
+    go : (d : Content) → length (formulas_in cs) ≤ length cs → length (with_formula c.0 d (formulas_in cs)) ≤ suc (length cs)
+    go (Content.Formula t) h = omega arith
+    go (Content.Number n) h = omega arith
+    go (Content.Text n) h = omega arith
+    go (Content.Truth n) h = omega arith
+
+pub length-contents : (cs : List (Addr × Cell)) → length (contents cs) ≡ length cs
+length-contents [] = refl
+length-contents (c ∷ cs) = ap suc (length-contents cs)
+
+pub enough : (b : Book) → length (formulas b) ≤ length b.cells
+unfolding formulas
+enough b = length-formulas b.cells
+
+-- as many rounds as there are cells finish the book
+pub all_rounds_finish : (b : Book) (k : ℕ) (e : Known) → length b.cells ≤ k → e ≡ rounds b k → e ≡ finished b
+all_rounds_finish b k e l h = h ∙ rounds_stay b (k - length (formulas b)) k (omega (arith, enough b))
+
+-- what a formula cell shows
+
+formula_there : (b : Book) (a : Addr) → IsSome (formula_at b a) → (t : Expr) × (formula_at b a ≡ Some t)
+formula_there b a h = go (formula_at b a) h
+  where
+    go : (o : Option Expr) → IsSome o → (t : Expr) × (o ≡ Some t)
+    go (Some t) k = (t, refl)
+    go None k = cc
+
+pub shown_value : (b : Book) (known : Known) (a : Addr) (v : Value) → IsSome (formula_at b a) → known ≡ finished b → known a ≡ Some v → shown b a ≡ Shown.Val v
+unfolding shown
+shown_value b known a v f k e =
+    let t = formula_there b a f in
+    let here : finished b a ≡ Some v = ap (λ (g : Known). g a) (sym k) ∙ e in
+    rw (t.1, here) refl
+
+pub shown_mark : (b : Book) (known : Known) (a : Addr) (r : Bool) → IsSome (formula_at b a) → known ≡ finished b → known a ≡ None → returns b (length b.cells) a ≡ r → shown b a ≡ cond r Shown.Cycle Shown.ToCycle
+unfolding shown
+shown_mark b known a r f k e q =
+    let t = formula_there b a f in
+    let here : finished b a ≡ None = ap (λ (g : Known). g a) (sym k) ∙ e in
+    let loop : returns b (length (formulas b)) a ≡ r = sym (returns_enough b a (length b.cells) (enough b)) ∙ q in
+    rw (t.1, here, loop) refl
+
+-- a way back that is found early stays found
+pub returns_on : (b : Book) (a : Addr) (n m : ℕ) → returns b n a ≡ true → n ≤ m → returns b m a ≡ true
+returns_on b a n zero e l = (let same : n ≡ 0 = omega arith in subst (λ z. returns b z a ≡ true) same e)
+returns_on b a n (suc m) e l = elim (at_end n m l) [ inl same ↦ subst (λ z. returns b z a ≡ true) same e | inr less ↦ or_true (returns b m a) (is_at a (follow b (suc m) a)) (returns_on b a n m e less) ]
+  where
+    at_end : (n m : ℕ) → n ≤ suc m → (n ≡ suc m) ⊎ (n ≤ m)
+    at_end n m l = grind arith
+
+    or_true : (x y : Bool) → x ≡ true → (x || y) ≡ true
+    or_true true y e = refl
+    or_true false y e = cc
+
+-- the cell at a place of the list is what its address finds
+pub found_element : (cs : List (Addr × Cell)) (i : ℕ) (d : Addr × Cell) → IsBook (contents cs) → i < length cs → cell_in (contents cs) (get_or cs i d).0 ≡ Some (content_of (get_or cs i d).1)
+found_element [] i d h l = absurd (omega arith)
+found_element (c ∷ cs) zero d h l = cond-true (same_addr c.0 c.0) (Some (content_of c.1)) (cell_in (contents cs) c.0) (same_addr-refl c.0)
+found_element (c ∷ cs) (suc i) d h l =
+    let later = found_element cs i d h.1 (omega arith) in
+    let apart : same_addr (get_or cs i d).0 c.0 ≡ false = false_from_ne_true (same_addr (get_or cs i d).0 c.0) (λ e. h.0 (subst (λ z. In z (places (contents cs))) (same_addr-true (get_or cs i d).0 c.0 e) (place_in cs i d (omega arith)))) in
+    cond-false (same_addr (get_or cs i d).0 c.0) (Some (content_of c.1)) (cell_in (contents cs) (get_or cs i d).0) apart ∙ later
+  where
+    place_in : (cs : List (Addr × Cell)) (i : ℕ) (d : Addr × Cell) → i < length cs → In (get_or cs i d).0 (places (contents cs))
+    place_in [] i d l = absurd (omega arith)
+    place_in (c ∷ cs) zero d l = inl refl
+    place_in (c ∷ cs) (suc i) d l = inr (place_in cs i d (omega arith))
+
+-- whether something is new is gathered from the left
+pub or_moves : (x y z : Bool) → ((x || y) || z) ≡ (x || (y || z))
+or_moves true y z = refl
+or_moves false y z = refl
+
+-- a way back that is found at the next step
+pub found_back : (b : Book) (a : Addr) (n m : ℕ) (x y : Option Addr) → n < m → x ≡ follow b n a → y ≡ option_and_then (need b) x → true ≡ is_at a y → true ≡ returns b m a
+found_back b a n m x y l h k e =
+    let next : y ≡ follow b (suc n) a = k ∙ ap (option_and_then (need b)) h in
+    sym (returns_on b a (suc n) m (or_right (returns b n a) (is_at a (follow b (suc n) a)) (ap (is_at a) (sym next) ∙ sym e)) (omega arith))
+  where
+    or_right : (x y : Bool) → y ≡ true → (x || y) ≡ true
+    or_right true y e = refl
+    or_right false y e = e
+
+-- one round more
+pub next_round_is : (b : Book) (k n : ℕ) (e f : Known) → n ≡ k + 1 → e ≡ rounds b k → f ≡ round b e → f ≡ rounds b n
+next_round_is b k n e f h p q = (let same : suc k ≡ n = omega arith in q ∙ ap (round b) p ∙ ap (rounds b) same)
+
+-- the cell at a place of the list holds a formula
+pub formula_element : (b : Book) (cs : List (Addr × Cell)) (i : ℕ) (x : Addr × Cell) (t : Tree) → contents cs ≡ b.cells → IsBook (contents cs) → i < length cs → x ≡ get_or cs i x → x.1 ≡ Cell.Formula t → IsSome (formula_at b x.0)
+unfolding formula_at
+formula_element b cs i x t m h l e f =
+    let p : cell_in (contents cs) x.0 ≡ Some (content_of x.1) = subst (λ (z : Addr × Cell). cell_in (contents cs) z.0 ≡ Some (content_of z.1)) (sym e) (found_element cs i x h l) in
+    let q : cell_in (contents cs) x.0 ≡ Some (content_of (Cell.Formula t)) = p ∙ ap (λ z. Some (content_of z)) f in
+    let r : cell_in b.cells x.0 ≡ Some (content_of (Cell.Formula t)) = subst (λ z. cell_in z x.0 ≡ Some (content_of (Cell.Formula t))) m q in
+    subst (λ o. IsSome (formula_of o)) (sym r) refl
+
+-- one round over the cells of a book
+pub next_of : (cells : List (Addr × Content)) (ts : Texts) (ks : List (Addr × Value)) (s : Sight) (cs : List (Addr × Cell)) (f : Known) → InOrder cells → s ≡ record { cells = cells; texts = ts; known = ks } → contents cs ≡ cells → f ≡ round_from (book_of s) (known_of s) (λ a. None) (contents cs) → f ≡ round (book_with cells ts) (value_in ks)
+next_of cells ts ks s cs f o q m e = e ∙ (λ i. round_from (book_of (q i)) (known_of (q i)) (λ a. None) (m i)) ∙ round_is (book_with cells ts) (value_in ks) (distinct_from_order cells o)
+
+pub on_ok : {T : Type 0} → (r : Result T AllocError) (P Q : T → Type 0) → ((x : T) → P x → Q x) → IfOk r P → IfOk r Q
+on_ok (Ok x) P Q h k = h x k
+on_ok (Err e) P Q h k = k

@@ -1,0 +1,20 @@
+use Rattle.std.proofs.Common.{sym, ap, ◌∙◌, subst, length}
+use Rattle.demand_spec.specs.Listed.{value_in}
+use Rattle.demand_spec.specs.Stage.{Sight, book_of}
+use Rattle.demand_spec.proofs.Listed.{formula_element, length-contents}
+use Rattle.demand_spec.proofs.Ordered.{IsBook, distinct_from_order}
+use Rattle.demand_spec.proofs.Texts.{finished_text}
+use Rattle.demand_spec.proofs.slow.slow_shown.Goals as goal
+
+pub over-stage-requires-clause-known : goal.over-stage-requires-clause-known
+over-stage-requires-clause-known c = finished_text c.args.book.now c.args.texts.now (value_in c.in_ok-known.known.entries) c.requires c.in_ok-known.ensures
+
+pub shown_of-requires-clause-cells : goal.shown_of-requires-clause-cells
+shown_of-requires-clause-cells c = sym (length-contents c.cells-cells.result.now) ∙ ap length c.cells-cells.ensures.same ∙ sym (ap (λ (s : Sight). length s.cells) c.over-stage.ensures)
+
+pub shown_of-requires-clause-formula : goal.shown_of-requires-clause-formula
+shown_of-requires-clause-formula c =
+    formula_element (book_of c.over-stage.result) c.cells-cells.result.now c.loop-address.address-index c.loop-address-item.result _
+    (c.cells-cells.ensures.same ∙ sym (ap (λ (s : Sight). s.cells) c.over-stage.ensures))
+    (subst IsBook (sym c.cells-cells.ensures.same) (distinct_from_order c.args.book.now c.cells-cells.ensures.in_order))
+    c.loop-address-test.true c.loop-address-item.is c.in-Formula.is

@@ -1,0 +1,125 @@
+-- What the arguments of a call give, and what the call gives from that.
+use Rattle.std.specs.Prelude.{ℕ, false, not, cond, Option, Result, Ok}
+use Rattle.cell_values.specs.declared.address.Addr.{Addr}
+use Rattle.cell_values.specs.declared.values.Code.{Code}
+use Rattle.cell_values.specs.declared.values.Value.{Value}
+use Rattle.cell_values.specs.Texts.{Texts}
+use Rattle.formula_grammar.specs.Expr.{Expr, Exprs, End, More}
+use Rattle.formula_grammar.specs.Mentions.{Place, place_of}
+use Rattle.builtin_functions.specs.declared.operators.Op2.{Op2}
+use Rattle.builtin_functions.specs.declared.operators.Sign2.{Sign2}
+use Rattle.builtin_functions.specs.Tables.{IsValueOf, as_number, is_error, unary_value, binary_value}
+use Rattle.demand_spec.specs.declared.Asked.{Asked}
+use Rattle.demand_spec.specs.declared.Asked.TheVariants.{Val, Needs}
+use Rattle.demand_spec.specs.declared.given.Argument.{Argument}
+use Rattle.demand_spec.specs.declared.given.Given.{Given}
+use Rattle.demand_spec.specs.Places.{seen, place_seen, HasArea}
+use Rattle.demand_spec.specs.Asks.{on_with, and_on, any_value, value_or_end, condition_or_end, number_or_end, if_error, index_steps, match_steps}
+use Rattle.demand_spec.specs.Formula.{from_one}
+use Rattle.demand_spec.specs.Stage.{Sight, look_on, ask_on}
+
+-- a value that is given is one of these texts'
+abbrev pub IsAnswerOf : Texts → Asked → Type 0
+IsAnswerOf ts (Val v) = IsValueOf ts v
+IsAnswerOf ts (Needs x) = Unit {0}
+
+-- an argument: what it gives, and where it stands
+abbrev pub argument_of : Sight → Addr → Expr → Argument
+argument_of s at t = record { value = ask_on s at t; place = seen (place_of at t) }
+
+-- an argument before the others
+abbrev pub given_before : Argument → Given → Given
+given_before a Given.Zero = Given.One a
+given_before a (Given.One b) = Given.Two a b
+given_before a (Given.Two b c) = Given.Three a b c
+given_before a (Given.Three b c d) = Given.Four a b c
+given_before a (Given.Four b c d) = Given.Four a b c
+
+abbrev pub given_by : Sight → Addr → Exprs → Given
+given_by s at End = Given.Zero
+given_by s at (More a rest) = given_before (argument_of s at a) (given_by s at rest)
+
+-- the values that the arguments give are of these texts
+abbrev pub AreGivenOf : Texts → Given → Type 0
+AreGivenOf ts Given.Zero = Unit {0}
+AreGivenOf ts (Given.One a) = IsAnswerOf ts a.value
+AreGivenOf ts (Given.Two a b) = IsAnswerOf ts a.value × IsAnswerOf ts b.value
+AreGivenOf ts (Given.Three a b c) = IsAnswerOf ts a.value × IsAnswerOf ts b.value × IsAnswerOf ts c.value
+AreGivenOf ts (Given.Four a b c) = IsAnswerOf ts a.value × IsAnswerOf ts b.value × IsAnswerOf ts c.value
+
+-- a condition, and then one of two
+abbrev pub if_then : Asked → Asked → Asked → Asked
+if_then condition first other = on_with (condition_or_end condition) (λ b. cond b first other)
+
+abbrev pub not_of : Asked → Asked
+not_of a = on_with (condition_or_end a) (λ b. Val (Value.Bool (not b)))
+
+abbrev pub is_error_of : Asked → Asked
+is_error_of a = on_with (any_value a) (λ v. Val (Value.Bool (is_error v)))
+
+abbrev pub sign_of_one : Sign2 → Asked → Asked
+sign_of_one sign a = on_with (value_or_end a) (λ x. Val (unary_value sign x))
+
+abbrev pub operator_of_two : Texts → Op2 → Asked → Asked → Asked
+operator_of_two ts op a b = on_with (value_or_end a) (λ x. on_with (value_or_end b) (λ y. Val (binary_value ts op x y)))
+
+-- CHOOSE's index, from 1 on and counted from 0
+abbrev pub index_or_end : Asked → Result (Option ℕ) Asked
+index_or_end a = and_on (value_or_end a) (λ v. and_on (number_or_end (as_number v)) (λ z. Ok (from_one z)))
+
+-- The functions over what their arguments give
+
+abbrev pub if_rule : Given → Asked
+if_rule (Given.Two c t) = if_then c.value t.value (Val (Value.Bool false))
+if_rule (Given.Three c t e) = if_then c.value t.value e.value
+if_rule _ = Val (Value.Error Code.Value)
+
+abbrev pub not_rule : Given → Asked
+not_rule (Given.One a) = not_of a.value
+not_rule _ = Val (Value.Error Code.Value)
+
+abbrev pub if_error_rule : Given → Asked
+if_error_rule (Given.Two a b) = if_error a.value b.value
+if_error_rule _ = Val (Value.Error Code.Value)
+
+abbrev pub is_error_rule : Given → Asked
+is_error_rule (Given.One a) = is_error_of a.value
+is_error_rule _ = Val (Value.Error Code.Value)
+
+abbrev pub sign_rule : Sign2 → Given → Asked
+sign_rule sign (Given.One a) = sign_of_one sign a.value
+sign_rule sign _ = Val (Value.Error Code.Value)
+
+abbrev pub operator_rule : Texts → Op2 → Given → Asked
+operator_rule ts op (Given.Two a b) = operator_of_two ts op a.value b.value
+operator_rule ts op _ = Val (Value.Error Code.Value)
+
+abbrev pub index_rule : Sight → Given → Asked
+index_rule s (Given.Three range row col) = on_with (value_or_end row.value) (λ v. on_with (value_or_end col.value) (λ w. index_steps (look_on s) v w (place_seen range.place)))
+index_rule s _ = Val (Value.Error Code.Value)
+
+abbrev pub match_of : Sight → Asked → Place → Asked
+match_of s key range = on_with (value_or_end key) (λ k. match_steps (look_on s) s.texts k range)
+
+abbrev pub match_rule : Sight → Given → Asked
+match_rule s (Given.Two key range) = match_of s key.value (place_seen range.place)
+match_rule s (Given.Three key range x) = match_of s key.value (place_seen range.place)
+match_rule s (Given.Four key range x) = match_of s key.value (place_seen range.place)
+match_rule s _ = Val (Value.Error Code.Value)
+
+-- the steps of a lookup behind a key and a place argument
+abbrev pub lookup_of : (Value → Value → Place → Asked) → Asked → Place → Asked → Asked
+lookup_of steps key range place = on_with (value_or_end key) (λ k. on_with (value_or_end place) (λ v. steps k v range))
+
+abbrev pub lookup_rule : (Value → Value → Place → Asked) → Given → Asked
+lookup_rule steps (Given.Three key range place) = lookup_of steps key.value (place_seen range.place) place.value
+lookup_rule steps (Given.Four key range place) = lookup_of steps key.value (place_seen range.place) place.value
+lookup_rule steps _ = Val (Value.Error Code.Value)
+
+-- where an argument has cells, they are a rectangle of a sheet
+abbrev pub HaveAreas : Given → Type 0
+HaveAreas Given.Zero = Unit {0}
+HaveAreas (Given.One a) = HasArea a.place
+HaveAreas (Given.Two a b) = HasArea a.place × HasArea b.place
+HaveAreas (Given.Three a b c) = HasArea a.place × HasArea b.place × HasArea c.place
+HaveAreas (Given.Four a b c) = HasArea a.place × HasArea b.place × HasArea c.place
