@@ -11,3 +11,4 @@ pub mod Closing
 pub mod Gathered
 pub mod Ends
 pub mod Seeing
+pub mod Found

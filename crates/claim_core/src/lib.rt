@@ -10,6 +10,8 @@ mod job;
 mod outcome;
 mod round;
 mod rule;
+#[cfg(test)]
+mod tests;
 mod view;
 
 pub use event::{Claim, Event, Publish};
