@@ -1,5 +1,5 @@
 -- What a client's steps found, over plain views, and the book of its tests.
-use Rattle.std.proofs.Common.{◌≡◌, ℕ, ◌<◌, Bool, true, false, cond, ◌||◌, is_some, Option, Some, None, List, [], ◌∷◌, get_or, map, length, IsSome, pos, ⊎_elim, refl, sym, ap, ◌∙◌, subst, arith}
+use Rattle.std.proofs.Common.{◌≡◌, ℕ, ◌<◌, Bool, true, false, cond, ◌||◌, is_some, Option, Some, None, List, [], ◌∷◌, get_or, map, IsSome, pos, ⊎_elim, refl, sym, ap, ◌∙◌, subst, arith}
 use Rattle.cell_values.specs.declared.address.Addr.{Addr}
 use Rattle.cell_values.specs.declared.values.Shown.{Shown}
 use Rattle.cell_values.specs.Addresses.{same_addr}
@@ -9,10 +9,10 @@ use mathlib.Core.Logic.{inl, inr}
 use Rattle.cell_values.specs.declared.values.Value.{Value}
 use Rattle.demand_spec.specs.Book.{Content, Formula, formula_of, formula_at, shown, own, finished, formulas, ask_cell}
 use Rattle.claim_core.specs.Pending.{IsPending}
-use Rattle.demand_spec.specs.Laws.{In, Mentions}
+use Rattle.demand_spec.specs.Laws.{In}
 use Rattle.cell_words.specs.declared.cell_word.CellWord.{CellWord}
 use Rattle.cell_words.specs.declared.cell_word.CellWord.TheVariants.{Stale, Claimed, Done}
-use Rattle.cell_words.specs.Records.{tag_of, tag_words, value_of, record_words}
+use Rattle.cell_words.specs.Records.{tag_of, tag_words, value_of}
 use Rattle.claim_core.specs.declared.event.Event.TheVariants as ev
 use Rattle.claim_core.specs.declared.event.Claim.TheVariants as claim
 use Rattle.claim_core.specs.declared.event.Publish.{Publish}

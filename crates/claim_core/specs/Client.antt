@@ -1,5 +1,5 @@
 -- What a client of a round says of its passes, and a book of two numbers for its tests.
-use Rattle.std.specs.Prelude.{◌≡◌, ℕ, ◌<◌, pos, true, Bool, is_some, List, [], ◌∷◌, length, Option, None}
+use Rattle.std.specs.Prelude.{◌≡◌, ℕ, ◌<◌, pos, true, [], ◌∷◌, length, None}
 use Rattle.cell_values.specs.declared.address.Addr.{Addr}
 use Rattle.cell_values.specs.declared.values.Shown.{Shown}
 use Rattle.cell_words.specs.declared.cell_word.CellWord.{CellWord}
