@@ -5,6 +5,7 @@ ghost use Rattle.cell_words.specs.declared.cell_word.CellWord.{CellWord};
 ghost use Rattle.cell_words.specs.Words.{Codes};
 ghost use Rattle.cell_words.specs.Records.{tag_of, value_of, record_words};
 ghost use Rattle.claim_core.specs.Words.{value_place};
+ghost use Rattle.claim_core.specs.Pending.{IsPending};
 ghost use Rattle.claim_core.specs.Lists.{listed, record_of};
 
 use crate::event::{Claim, Publish};
@@ -98,6 +99,7 @@ impl<'b, B: BookView> Round<'b, B> {
     pub fn workers(&self) -> u8
         ensures number { result ≡ self.now.setup.workers }
         ensures range { (1 ≤ result) × (result ≤ 64) }
+        ensures pending { ∥ IsPending self.now.setup.book self.now.setup.cells ∥₁ }
     {
         self.workers
     }
