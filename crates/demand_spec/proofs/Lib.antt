@@ -12,3 +12,4 @@ pub mod Texts
 pub mod Areas
 pub mod Listed
 pub mod Rules
+pub mod Halves

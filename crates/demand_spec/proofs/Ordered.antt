@@ -17,7 +17,7 @@ places (c ∷ rest) = c.0 ∷ places rest
 abbrev pub IsBook : List (Addr × Content) → Type 0
 IsBook cs = Distinct (places cs)
 
-never_before : (a : Addr) → IsBefore a a → ⊥
+pub never_before : (a : Addr) → IsBefore a a → ⊥
 never_before a (inl h) = omega arith
 never_before a (inr h) = ⊎_elim (λ (k : a.row < a.row). absurd (omega arith)) (λ (k : (a.row ≡ a.row) × (a.col < a.col)). absurd (omega (arith, k.1))) h.1
 

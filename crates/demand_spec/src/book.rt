@@ -7,6 +7,7 @@ ghost use Rattle.demand_spec.specs.Listed.{content_of, contents, InOrder, IsAfte
 use crate::Cell;
 use cell_values::Addr;
 use std::alloc::{AllocError, Global};
+use std::cmp::Ordering;
 use std::marker::Model;
 
 /// Cells in the order of their addresses, each address once. Contracts see the list of the addresses
@@ -78,16 +79,20 @@ impl PlainBook {
     }
 }
 
-/// The cell at an address, in a list of cells in order.
+/// The cell at an address, in a list of cells in order: halves of the list up to the cell.
 fn find_cell(cells: &[(Addr, Cell)], at: Addr) -> Option<&Cell>
+    requires { InOrder (contents cells.now) }
     ensures { option_map content_of (option_copied result) ≡ cell_in (contents cells.now) at }
 {
-    for (address, cell) in cells {
-        if is_same(at, *address) {
-            return Some(cell);
-        }
+    if cells.is_empty() {
+        return None;
     }
-    None
+    let middle = cells.len() / 2;
+    match at.cmp(&cells[middle].0) {
+        Ordering::Less => find_cell(&cells[..middle], at),
+        Ordering::Equal => Some(&cells[middle].1),
+        Ordering::Greater => find_cell(&cells[middle + 1..], at),
+    }
 }
 
 /// Whether two addresses are the same.
