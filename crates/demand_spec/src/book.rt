@@ -1,11 +1,11 @@
 //! A plain book: cells in the order of their addresses.
 ghost use Rattle.std.specs.Prelude.{◌≡◌, [], ◌∷◌, ◌++◌, OnOk, OnErr, option_map, option_copied};
 ghost use Rattle.cell_values.specs.Addresses.{same_addr, IsOnSheet};
-ghost use Rattle.demand_spec.specs.Book.{cell_in};
+ghost use Rattle.demand_spec.specs.Book.{cell_in, own_of};
 ghost use Rattle.demand_spec.specs.Listed.{content_of, contents, InOrder, IsAfterAll, IsSoundAt};
 
 use crate::Cell;
-use cell_values::Addr;
+use cell_values::{Addr, Value};
 use std::alloc::{AllocError, Global};
 use std::cmp::Ordering;
 use std::marker::Model;
@@ -63,6 +63,18 @@ impl PlainBook {
         ensures { option_map content_of (option_copied result) ≡ cell_in self.now at }
     {
         find_cell(&self.cells, at)
+    }
+
+    /// The value of a cell without a formula; Blank at a formula cell, and where the book has no cell.
+    pub fn own(&self, at: Addr) -> Value
+        ensures { result ≡ own_of (cell_in self.now at) }
+    {
+        match self.get(at) {
+            Some(Cell::Number(n)) => Value::Number(*n),
+            Some(Cell::Text(t)) => Value::Text(*t),
+            Some(Cell::Bool(b)) => Value::Bool(*b),
+            _ => Value::Blank,
+        }
     }
 
     /// Appends a cell behind all others.
