@@ -13,3 +13,4 @@ pub mod Areas
 pub mod Listed
 pub mod Rules
 pub mod Halves
+pub mod Small

@@ -14,6 +14,8 @@ mod places;
 pub mod slow;
 mod stage;
 mod steps;
+#[cfg(test)]
+mod tests;
 pub mod view;
 mod whole;
 

@@ -27,8 +27,8 @@ returns-in-Equal t c =
     let l : length c.args.cells.now / 2 < length c.args.cells.now = grind (arith, common_steps) in
     let m = length c.args.cells.now / 2 in
     in_middle c.args.at c.args.cells.now m c.index-cells-middle-in-Equal.result c.requires l
-        (cmp_equal c.args.at (get_or c.args.cells.now m c.index-cells-middle.result).0 (sym c.cmp.ensures ∙ c.in-Equal.is)
-        ∙ ap (λ (z : Addr × Cell). z.0) (same_element c.args.cells.now m c.index-cells-middle.result c.index-cells-middle-in-Equal.result l))
+    (cmp_equal c.args.at (get_or c.args.cells.now m c.index-cells-middle.result).0 (sym c.cmp.ensures ∙ c.in-Equal.is)
+    ∙ ap (λ (z : Addr × Cell). z.0) (same_element c.args.cells.now m c.index-cells-middle.result c.index-cells-middle-in-Equal.result l))
 
 pub returns-in-Greater : goal.returns-in-Greater
 returns-in-Greater t c =
