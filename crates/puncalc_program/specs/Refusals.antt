@@ -1,0 +1,28 @@
+-- The lines that tell of a refusal.
+use Rattle.std.specs.Prelude.{ℕ, List, [], ◌∷◌, ◌++◌, codes}
+use Rattle.std.specs.Fmt.{decimal}
+use Rattle.puncalc_program.specs.declared.refusals.FieldFault.{FieldFault}
+use Rattle.puncalc_program.specs.declared.refusals.Refusal.{Refusal}
+
+-- the fault's name
+abbrev pub fault_name : FieldFault → List ℕ
+fault_name FieldFault.NotUtf8 = codes "S1"
+fault_name FieldFault.OutOfSheet = codes "S2"
+fault_name FieldFault.TooManyCells = codes "S3"
+fault_name FieldFault.NotEvaluated = codes "S9"
+
+-- what is refused, and why
+abbrev pub refusal_text : Refusal → List ℕ
+refusal_text Refusal.Words = codes "refused words"
+refusal_text Refusal.TooLong = codes "refused Sheet1: S4"
+refusal_text (Refusal.Field row col fault) =
+    codes "refused Sheet1 row " ++ decimal row ++ codes " column " ++ decimal col ++ codes ": " ++ fault_name fault
+
+-- the line, with its end
+abbrev pub refusal_line : Refusal → List ℕ
+refusal_line r = refusal_text r ++ 10 ∷ []
+
+-- the status that the program ends with
+abbrev pub refusal_status : Refusal → ℕ
+refusal_status Refusal.Words = 2
+refusal_status _ = 3

@@ -1,0 +1,142 @@
+//! A sheet's bytes as a book.
+
+ghost use Rattle.std.specs.Prelude.{◌≡◌, ◌∷◌, [], ◌++◌, Some, None, Ok, Err, IfOk, IfSome, OnOk, OnErr, MatchResult, List, ℕ, option_map};
+ghost use Rattle.cell_values.specs.Addresses.{IsOnSheet};
+ghost use Rattle.cell_values.specs.Fields.{IsRawOf};
+ghost use Rattle.demand_spec.specs.Listed.{content_of, IsAfterAll, IsContentOf, IsSoundAt};
+ghost use Rattle.puncalc_program.specs.Loading.{content_read, loaded, refusal_of};
+ghost use Rattle.puncalc_program.specs.Faults.{IsLoadFault, AddsCell, IsNotEvaluated};
+
+use crate::refusals::{FieldFault, Refusal};
+use cell_values::{Addr, Raw, Texts};
+use demand_spec::{Cell, PlainBook};
+use formula_grammar::read_plain;
+use sheet_csv::{SheetFault, read_sheet};
+use std::alloc::{AllocError, Global};
+use std::marker::Model;
+
+/// The most cells that are not empty, of all sheets together.
+const MAX_CELLS: u32 = 200_000;
+
+/// Why a sheet gives no book.
+#[derive(Clone, Copy, Debug, PartialEq, Eq)]
+pub(crate) enum LoadFault {
+    Refused(Refusal),
+    OutOfMemory,
+}
+
+impl From<AllocError> for LoadFault {
+    ghost use Rattle.puncalc_program.specs.declared.load.LoadFault.{LoadFault};
+
+    ghost from_gives = { λ _ fault. fault ≡ LoadFault.OutOfMemory };
+
+    fn from(_error: AllocError) -> LoadFault {
+        LoadFault::OutOfMemory
+    }
+}
+
+impl From<SheetFault> for LoadFault {
+    ghost use Rattle.puncalc_program.specs.Faults.{load_fault_of};
+
+    ghost from_gives = { λ fault made. made ≡ load_fault_of fault };
+
+    fn from(fault: SheetFault) -> LoadFault {
+        let (row, col, fault) = match fault {
+            SheetFault::NotUtf8(row, col) => (row, col, FieldFault::NotUtf8),
+            SheetFault::OutOfSheet(row, col) => (row, col, FieldFault::OutOfSheet),
+            SheetFault::TooManyCells(row, col) => (row, col, FieldFault::TooManyCells),
+            SheetFault::OutOfMemory => return LoadFault::OutOfMemory,
+        };
+        LoadFault::Refused(Refusal::Field(row, col, fault))
+    }
+}
+
+/// A book of one sheet that is not recalculated yet. Contracts see the book.
+#[derive(Drop)]
+pub(crate) struct Loaded {
+    pub(crate) book: PlainBook,
+    pub(crate) texts: Texts,
+    pub(crate) rows: u32,
+    pub(crate) columns: u16,
+}
+
+impl Model for Loaded {
+    ghost use Rattle.demand_spec.specs.Book.{Book};
+
+    ghost Value = { Book };
+
+    ghost use Rattle.std.specs.Coded.{codes};
+    ghost use Rattle.formula_grammar.specs.ExprCode.{expr_code};
+
+    ghost coded = { Prim.hlevel (codes, expr_code) };
+
+    ghost use Rattle.puncalc_program.specs.Recalculated.{IsLoaded};
+
+    ghost view = { λ s. record { cells = s.book; texts = s.texts } };
+
+    ghost invariant = { λ s. IsLoaded (record { cells = s.book; texts = s.texts }) s.rows s.columns };
+}
+
+/// The book of a sheet's bytes.
+#[tactic(auto, using(crate::proofs::Loads::refused_sheet))]
+pub(crate) fn load(alloc: Global, bytes: &[u8]) -> Result<Loaded, LoadFault>
+    ensures { MatchResult result (λ book. loaded bytes.now ≡ Ok book) (λ fault. IsLoadFault fault (loaded bytes.now)) }
+{
+    let mut texts = Texts::new(alloc);
+    let cells = read_sheet(alloc, bytes, 0, MAX_CELLS, &mut texts)?;
+    let mut sheet = Loaded {
+        book: PlainBook::new(alloc),
+        texts,
+        rows: 0,
+        columns: 0,
+    };
+    for (at, raw) in &cells {
+        sheet.add(alloc, *at, raw)?;
+    }
+    Ok(sheet)
+}
+
+impl Loaded {
+    /// Adds a cell behind all others.
+    #[tactic(auto, using(crate::proofs::Loads::loaded_push))]
+    fn add(&mut self, alloc: Global, at: Addr, raw: &Raw) -> Result<(), LoadFault>
+        requires after { IsAfterAll at self.old.cells }
+        requires first_sheet { at.sheet ≡ 0 }
+        requires on_sheet { IsOnSheet at }
+        requires text { IsRawOf self.old.texts raw.now }
+        ensures ok { OnOk result (AddsCell self.old self.new at (content_read at raw.now)) }
+        ensures fault { MatchResult result (λ _. Unit {0}) (λ fault. IsNotEvaluated fault at (content_read at raw.now)) }
+    {
+        let Some(cell) = read_cell(alloc, at, raw)? else {
+            return Err(LoadFault::Refused(Refusal::Field(
+                at.row as usize,
+                usize::from(at.col),
+                FieldFault::NotEvaluated,
+            )));
+        };
+        self.book.push(at, cell)?;
+        self.rows = self.rows.max(at.row);
+        self.columns = self.columns.max(at.col);
+        Ok(())
+    }
+}
+
+/// What a field makes of its cell. None where its formula is of a kind that is not evaluated yet.
+#[tactic(auto, using(crate::proofs::Loads::no_texts_below))]
+fn read_cell(alloc: Global, at: Addr, raw: &Raw) -> Result<Option<Cell>, AllocError>
+    requires { IsOnSheet at }
+    ensures exact { IfOk result (λ cell. option_map content_of cell ≡ content_read at raw.now) }
+    ensures sound { IfOk result (λ cell. IfSome cell (λ c. IsSoundAt at (content_of c))) }
+    ensures texts { IfOk result (λ cell. IfSome cell (λ c. (ts : List (List ℕ)) → IsRawOf ts raw.now → IsContentOf ts (content_of c))) }
+{
+    match raw {
+        Raw::Nothing => Ok(None),
+        Raw::Number(n) => Ok(Some(Cell::Number(*n))),
+        Raw::Text(t) => Ok(Some(Cell::Text(*t))),
+        Raw::Bool(b) => Ok(Some(Cell::Bool(*b))),
+        Raw::Formula(text) => match read_plain(alloc, text.as_str(), at)? {
+            Some(tree) => Ok(Some(Cell::Formula(tree))),
+            None => Ok(None),
+        },
+    }
+}

@@ -1,0 +1,45 @@
+//! What `show` writes.
+
+ghost use Rattle.std.specs.Prelude.{◌≡◌, ◌≢◌, IfOk};
+ghost use Rattle.puncalc_program.specs.Output.{refusal, shown_or_refused};
+ghost use Rattle.puncalc_program.specs.Refusals.{refusal_status};
+ghost use Rattle.puncalc_program.specs.Loading.{loaded};
+ghost use Rattle.puncalc_program.specs.Run.{Answers, IsFinal, StopsWritingFor};
+
+use crate::load::{LoadFault, load};
+use crate::refusals::Refusal;
+use crate::sheet::write_sheet;
+use crate::stop::Stop;
+use byte_streams::{Sink, write_whole};
+use std::alloc::Global;
+
+/// Recalculates the sheet of these bytes and writes it, or its refusal. Answers the status.
+#[tactic(auto, using(crate::proofs::Loads::not_words))]
+pub(crate) fn show<K: Sink>(alloc: Global, bytes: &[u8], out: &mut K) -> Result<u8, Stop>
+    ensures answers { Answers (shown_or_refused (loaded bytes.now)) (K.written out.old) (K.written out.new) result }
+    ensures ended { IfOk result (λ status. IsFinal status) }
+    ensures accepted { IfOk result (λ status. status ≢ 2) }
+    ensures causes { StopsWritingFor (K.faults out.old, K.faults out.new) result }
+{
+    match load(alloc, bytes) {
+        Ok(book) => {
+            let sheet = book.recalculate(alloc)?;
+            write_sheet(alloc, &sheet, out)?;
+            Ok(0)
+        }
+        Err(LoadFault::Refused(why)) => refuse(alloc, why, out),
+        Err(LoadFault::OutOfMemory) => Err(Stop::Memory),
+    }
+}
+
+/// Writes the line of a refusal, and answers its status.
+pub(crate) fn refuse<K: Sink>(alloc: Global, why: Refusal, out: &mut K) -> Result<u8, Stop>
+    ensures answers { Answers (refusal why) (K.written out.old) (K.written out.new) result }
+    ensures ended { IfOk result (λ status. IsFinal status) }
+    ensures status { IfOk result (λ status. status ≡ refusal_status why) }
+    ensures causes { StopsWritingFor (K.faults out.old, K.faults out.new) result }
+{
+    let line = format!(in alloc; "{why}\n")?;
+    write_whole(out, line.as_bytes())?;
+    Ok(why.status())
+}
