@@ -1,3 +1,4 @@
 pub mod Records
 pub mod SheetFacts
 pub mod RowFacts
+pub mod PlacedCells

@@ -1,13 +1,12 @@
 -- How the writer's rows read in plain words.
-use Rattle.std.proofs.Common.{◌≡◌, ℕ, suc, ◌+◌, ◌<◌, Bool, true, false, cond, eqb, List, [], ◌∷◌, ◌++◌, length, map, Result, Ok, Err, refl, ap, sym, ◌∙◌, subst, arith}
-use Rattle.std.specs.Prelude.{◌||◌, if◌then◌else◌, IfOk, MatchResult, is_ok}
-use Rattle.std.specs.List.{flat_map, join_with_byte, list_any}
-use Rattle.std.proofs.lemmas.Bool.{cases_Bool}
+use Rattle.std.proofs.Common.{◌≡◌, ℕ, ◌<◌, Bool, true, false, cond, eqb, List, [], ◌∷◌, ◌++◌, length, map, Result, Ok, Err, refl, ap, sym, ◌∙◌, subst, arith}
+use Rattle.std.specs.Prelude.{IfOk, MatchResult, is_ok}
+use Rattle.std.specs.List.{join_with_byte, list_any}
 use Rattle.std.proofs.lemmas.Bool.Decides.{nat_tests}
 use Rattle.std.proofs.lemmas.List.{append-nil}
 use Rattle.csv.specs.Writing as csv
 use Rattle.csv.specs.Writing.{default_writer, escaped, is_blank, needs_byte, needs_quotes}
-use Rattle.sheet_csv.specs.Row.{doubled, field_text, fields_text, is_special, row_text}
+use Rattle.sheet_csv.specs.Row.{doubled, field_text, is_special, row_text}
 
 same_byte : (b : ℕ) → needs_byte default_writer b ≡ is_special b
 same_byte b = grind (arith, nat_tests)

@@ -6,3 +6,6 @@ pub mod writing;
 
 pub use reading::{SheetFault, read_sheet};
 pub use writing::write_row;
+
+#[cfg(test)]
+mod tests;

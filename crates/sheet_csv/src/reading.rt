@@ -1,7 +1,8 @@
 //! The cells of a sheet, from CSV.
 
-ghost use Rattle.std.specs.Prelude.{◌≡◌, ◌+◌, ◌-◌, ◌⊎◌, List, [], ◌∷◌, ◌++◌, fold, Some, None, IfErr, IfOk, OnOk, vec_len};
-ghost use Rattle.cell_values.specs.Fields.{raw_of};
+ghost use Rattle.std.specs.Prelude.{◌≡◌, ◌≤◌, ◌+◌, ◌-◌, ◌⊎◌, List, [], ◌∷◌, ◌++◌, fold, max, All, AllPairs, Some, None, IfErr, IfOk, OnOk, vec_len};
+ghost use Rattle.cell_values.specs.Addresses.{IsBefore, IsOnSheet};
+ghost use Rattle.cell_values.specs.Fields.{IsRawOf, raw_of};
 ghost use Rattle.cell_values.specs.Interned.{KeepsTexts};
 ghost use Rattle.csv.specs.Records.{fields_of};
 ghost use Rattle.sheet_csv.specs.Sheet.{Field, cells_of, fault_of, first_fault, row_fields, sheet_fields, with_field};
@@ -49,6 +50,12 @@ pub fn read_sheet(
     // types can name, would be answered as that.
     ensures fault { IfErr result (λ fault. (fault ≡ SheetFault.OutOfMemory) ⊎ (first_fault room (sheet_fields bytes.now) ≡ Some fault)) }
     ensures kept { KeepsTexts texts.old texts.new }
+
+    // What follows for the cells.
+    ensures within { IfOk result (λ cells. vec_len cells ≤ room) }
+    ensures on_sheet { IfOk result (λ cells. All (λ cell. IsOnSheet cell.0 × (cell.0.sheet ≡ sheet)) cells.items) }
+    ensures in_order { IfOk result (λ cells. AllPairs (λ a b. IsBefore a.0 b.0) cells.items) }
+    ensures there { IfOk result (λ cells. All (λ cell. IsRawOf texts.new cell.1) cells.items) }
 {
     let reader = ReaderBuilder::new()
         .has_headers(false)
@@ -78,6 +85,8 @@ fn read_row(
     ensures passed { OnOk result ((rest : List Field) → first_fault (room - vec_len cells.old) (row_fields (row, fields_of record.now) ++ rest) ≡ first_fault (room - vec_len cells.new) rest) }
     ensures fault { IfErr result (λ fault. (fault ≡ SheetFault.OutOfMemory) ⊎ ((rest : List Field) → first_fault (room - vec_len cells.old) (row_fields (row, fields_of record.now) ++ rest) ≡ Some fault)) }
     ensures kept { KeepsTexts texts.old texts.new }
+    ensures within { OnOk result (vec_len cells.new ≤ max (vec_len cells.old) room) }
+    ensures there { All (λ cell. IsRawOf texts.old cell.1) cells.old.items → OnOk result (All (λ cell. IsRawOf texts.new cell.1) cells.new.items) }
 {
     for (before, field) in record.iter().enumerate() {
         let col = before + 1;
@@ -127,6 +136,8 @@ fn read_field(
     ensures passed { OnOk result ((rest : List Field) → first_fault (room - vec_len cells.old) (field_of_place place field.now ∷ rest) ≡ first_fault (room - vec_len cells.new) rest) }
     ensures fault { IfErr result (λ fault. (fault ≡ SheetFault.OutOfMemory) ⊎ (fault_of (room - vec_len cells.old) (field_of_place place field.now) ≡ Some fault)) }
     ensures kept { KeepsTexts texts.old texts.new }
+    ensures within { OnOk result (vec_len cells.new ≤ max (vec_len cells.old) room) }
+    ensures there { All (λ cell. IsRawOf texts.old cell.1) cells.old.items → OnOk result (All (λ cell. IsRawOf texts.new cell.1) cells.new.items) }
 {
     let Ok(text) = str::from_utf8(field) else {
         return Err(SheetFault::NotUtf8(place.row, place.col));
@@ -156,6 +167,7 @@ fn push_cell(
     ensures cells { OnOk result (cells.new.items ≡ cells.old.items ++ (at, (raw_of texts.old text.now).1) ∷ []) }
     ensures count { OnOk result (vec_len cells.new ≡ vec_len cells.old + 1) }
     ensures kept { KeepsTexts texts.old texts.new }
+    ensures there { All (λ cell. IsRawOf texts.old cell.1) cells.old.items → OnOk result (All (λ cell. IsRawOf texts.new cell.1) cells.new.items) }
 {
     let raw = Raw::read(alloc, text, texts)?;
     cells.push((at, raw))?;

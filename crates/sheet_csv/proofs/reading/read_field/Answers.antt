@@ -1,11 +1,9 @@
-use Rattle.std.proofs.Common.{◌≡◌, ℕ, ◌+◌, ◌-◌, ◌<◌, ◌≤◌, Bool, true, false, List, [], ◌∷◌, ◌++◌, length, ◌⊎◌, inl, inr, Option, Some, None, ap, sym, ◌∙◌, subst, arith, rules}
+use Rattle.std.proofs.Common.{◌≡◌, ◌-◌, ◌<◌, [], ◌∷◌, ◌++◌, inr, ap, sym, ◌∙◌, arith}
 use Rattle.std.specs.Prelude.{vec_len}
-use Rattle.std.specs.Str.{IsUtf8}
-use Rattle.std.proofs.lemmas.Bool.Decides.{nat_tests}
 use Rattle.std.proofs.lemmas.Result.{MatchResult-at_ok, MatchResult-at_err}
 use Rattle.cell_values.specs.Fields.{raw_of}
-use Rattle.sheet_csv.specs.Sheet.{Field, fault_of, first_fault, is_in_sheet, room_after}
-use Rattle.sheet_csv.specs.Place.{cell_of_place, field_of_place}
+use Rattle.sheet_csv.specs.Sheet.{first_fault}
+use Rattle.sheet_csv.specs.Place.{field_of_place}
 use Rattle.sheet_csv.proofs.SheetFacts.{field_no_text, field_empty, field_outside, field_full, field_fits, passed_field, with_empty, none_from_empty, some_from_empty, outside, inside, with_cell, room_same, room_less}
 use Rattle.sheet_csv.proofs.reading.read_field.Goals as goal
 

@@ -1,4 +1,4 @@
-use Rattle.std.proofs.Common.{◌≡◌, ℕ, ◌+◌, ◌-◌, ◌≤◌, List, [], ◌∷◌, ◌++◌, length, drop, ◌⊎◌, inl, inr, Option, Some, None, fold, ap, sym, ◌∙◌}
+use Rattle.std.proofs.Common.{◌≡◌, ◌+◌, ◌-◌, List, ◌++◌, drop, inl, inr, Some, None, fold, ap, sym, ◌∙◌, arith}
 use Rattle.std.specs.Prelude.{vec_len}
 use Rattle.std.proofs.lemmas.Result.{err_from_is_err_and}
 use Rattle.csv.specs.Records.{Row, field_at, fields_of}
@@ -22,6 +22,8 @@ loop-before-preserved c =
       cells = sym (cells_more c.args.sheet _ _ _ _ more left c.in_ok-read_field.ensures.cells) ∙ inv.cells;
       passed = λ rest. inv.passed rest ∙ ap (λ (fs : List Field). first_fault (c.args.room - vec_len c.loop-before.cells) (fs ++ rest)) left ∙ c.in_ok-read_field.ensures.passed (more ++ rest);
       kept = kept_more _ _ _ inv.kept c.in_ok-read_field.ensures.kept;
+      within = omega (arith, c.in_ok-read_field.ensures.within);
+      there = λ h. c.in_ok-read_field.ensures.there (inv.there h);
     }
 
 pub returns-in_err-read_field-clause-fault : goal.returns-in_err-read_field-clause-fault

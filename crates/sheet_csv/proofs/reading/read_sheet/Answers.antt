@@ -1,12 +1,15 @@
-use Rattle.std.proofs.Common.{◌≡◌, ℕ, ◌+◌, ◌-◌, true, false, Bor, List, [], ◌∷◌, length, ◌⊎◌, inl, inr, Option, Some, None, fold, ap, sym, refl, ◌∙◌, subst, arith, rules}
-use Rattle.std.specs.Prelude.{vec_len}
+use Rattle.std.proofs.Common.{◌≡◌, ℕ, ◌+◌, ◌-◌, true, false, Bor, List, [], length, inl, inr, Some, fold, All, ap, sym, refl, ◌∙◌, subst, arith}
+use Rattle.std.specs.Prelude.{vec_len, AllPairs}
+use Rattle.std.proofs.lemmas.List.Elements.{All-nil}
+use Rattle.cell_values.specs.Fields.{IsRawOf}
 use Rattle.std.proofs.lemmas.Result.{err_from_is_err_and}
-use Rattle.csv.specs.Reading.{default_config, records_from, source_of, strip_bom, with_flexible, with_names_headers}
+use Rattle.csv.specs.Reading.{default_config, records_from, strip_bom, with_flexible, with_names_headers}
 use Rattle.csv.specs.Records.{fields_of}
 use Rattle.csv.specs.declared.reader.ReaderBuilder.{ReaderBuilder}
 use Rattle.csv.proofs.ReadFacts.{rows-end}
-use Rattle.sheet_csv.specs.Sheet.{Field, fields_from, first_fault, sheet_fields, with_field}
-use Rattle.sheet_csv.proofs.Records.{Enough, record_read, enough_more, next_rows, no_record}
+use Rattle.sheet_csv.specs.Sheet.{Sheet, fields_from, first_fault, sheet_fields, with_field}
+use Rattle.sheet_csv.proofs.PlacedCells.{Cell, InOrder, OnSheet, sheet_placed}
+use Rattle.sheet_csv.proofs.Records.{record_read, enough_more, next_rows, no_record}
 use Rattle.sheet_csv.proofs.SheetFacts.{fields_none, no_fields, kept_none, kept_more, sheet_cells, sheet_passed, sheet_refused}
 use Rattle.sheet_csv.proofs.reading.read_sheet.Goals as goal
 
@@ -25,6 +28,8 @@ loop-above-init c =
       config = fr.config ∙ ap (λ (b : ReaderBuilder). b.config) e ∙ c.new.ensures.config;
       going = (strip_bom c.args.bytes.now, length (strip_bom c.args.bytes.now) + 1, fr.source, inl (omega arith), refl, ap (λ r. first_fault r all) room);
       kept = kept_none c.args.texts.now;
+      within = omega arith;
+      there = All-nil (λ (cell : Cell). IsRawOf c.args.texts.now cell.1);
     })
 
 pub returns-in_err-read_row-clause-fault : goal.returns-in_err-read_row-clause-fault
@@ -71,6 +76,8 @@ loop-above-preserved c =
         sheet_passed (c.args.room - vec_len c.loop-above.cells) (c.args.room - vec_len c.read_row.new.cells) c.loop-above.above-iterator.count c.in-Some.above c.next.new.self.count _ f _ _ step.1 step.2 rows c.in_ok-read_row.ensures.passed passed,
       );
       kept = kept_more _ _ _ inv.kept c.in_ok-read_row.ensures.kept;
+      within = omega (arith, c.in_ok-read_row.ensures.within);
+      there = c.in_ok-read_row.ensures.there inv.there;
     }
 
 pub returns-clause-cells : goal.returns-clause-cells
@@ -96,3 +103,13 @@ returns-clause-no_fault c =
     let row = c.loop-above.above-iterator.count + 1 in
     let none : fields_from row (records_from default_config n a.state y) ≡ [] = ap (fields_from row) (no_record n a.state y done) ∙ fields_none row in
     passed ∙ ap (first_fault (c.args.room - vec_len c.loop-above.cells)) none ∙ no_fields (c.args.room - vec_len c.loop-above.cells)
+
+pub returns-clause-on_sheet : goal.returns-clause-on_sheet
+returns-clause-on_sheet c =
+    let (end, placed) = sheet_placed c.args.sheet c.args.room c.args.texts.now c.args.bytes.now (returns-clause-no_fault c) in
+    subst (λ (s : Sheet). All (OnSheet c.args.sheet) s.1) (sym (returns-clause-cells c)) placed.on_sheet
+
+pub returns-clause-in_order : goal.returns-clause-in_order
+returns-clause-in_order c =
+    let (end, placed) = sheet_placed c.args.sheet c.args.room c.args.texts.now c.args.bytes.now (returns-clause-no_fault c) in
+    subst (λ (s : Sheet). AllPairs InOrder s.1) (sym (returns-clause-cells c)) placed.in_order

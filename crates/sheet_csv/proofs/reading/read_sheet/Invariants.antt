@@ -1,5 +1,6 @@
-use Rattle.std.proofs.Common.{◌≡◌, ℕ, ◌+◌, ◌-◌, ◌<◌, ◌≤◌, List, Some, [], fold, length}
+use Rattle.std.proofs.Common.{◌≡◌, ℕ, ◌+◌, ◌-◌, ◌<◌, ◌≤◌, List, Some, fold, All}
 use Rattle.std.specs.Prelude.{vec_len}
+use Rattle.cell_values.specs.Fields.{IsRawOf}
 use Rattle.cell_values.specs.Interned.{KeepsTexts}
 use Rattle.csv.specs.Reading.{Ready, default_config, records_from, source_of}
 use Rattle.csv.specs.declared.reader.Trim.TheVariants as trim
@@ -21,4 +22,6 @@ invariant-loop-above l =
           × (fold (with_field l.sheet) (l.texts, l.cells.items) (fields_from row (records_from default_config n reader.state y)) ≡ cells_of l.sheet l.initial.texts (sheet_fields l.bytes))
           × (first_fault l.room (sheet_fields l.bytes) ≡ first_fault (l.room - vec_len l.cells) (fields_from row (records_from default_config n reader.state y)));
       kept : KeepsTexts l.initial.texts l.texts;
+      within : vec_len l.cells ≤ l.room;
+      there : All (λ cell. IsRawOf l.texts cell.1) l.cells.items;
     }
