@@ -74,21 +74,21 @@ pub fn read_sheet(
 /// Reads the cells of a row behind those that are there.
 fn read_row(
     alloc: Global,
-    record: &ByteRecord,
+    fields: &ByteRecord,
     sheet: u8,
     row: usize,
     room: u32,
     texts: &mut Texts,
     cells: &mut Vec<(Addr, Raw)>,
 ) -> Result<(), SheetFault>
-    ensures cells { OnOk result ((texts.new, cells.new.items) ≡ fold (with_field sheet) (texts.old, cells.old.items) (row_fields (row, fields_of record.now))) }
-    ensures passed { OnOk result ((rest : List Field) → first_fault (room - vec_len cells.old) (row_fields (row, fields_of record.now) ++ rest) ≡ first_fault (room - vec_len cells.new) rest) }
-    ensures fault { IfErr result (λ fault. (fault ≡ SheetFault.OutOfMemory) ⊎ ((rest : List Field) → first_fault (room - vec_len cells.old) (row_fields (row, fields_of record.now) ++ rest) ≡ Some fault)) }
+    ensures cells { OnOk result ((texts.new, cells.new.items) ≡ fold (with_field sheet) (texts.old, cells.old.items) (row_fields (row, fields_of fields.now))) }
+    ensures passed { OnOk result ((rest : List Field) → first_fault (room - vec_len cells.old) (row_fields (row, fields_of fields.now) ++ rest) ≡ first_fault (room - vec_len cells.new) rest) }
+    ensures fault { IfErr result (λ fault. (fault ≡ SheetFault.OutOfMemory) ⊎ ((rest : List Field) → first_fault (room - vec_len cells.old) (row_fields (row, fields_of fields.now) ++ rest) ≡ Some fault)) }
     ensures kept { KeepsTexts texts.old texts.new }
     ensures within { OnOk result (vec_len cells.new ≤ max (vec_len cells.old) room) }
     ensures there { All (λ cell. IsRawOf texts.old cell.1) cells.old.items → OnOk result (All (λ cell. IsRawOf texts.new cell.1) cells.new.items) }
 {
-    for (before, field) in record.iter().enumerate() {
+    for (before, field) in fields.iter().enumerate() {
         let col = before + 1;
         read_field(alloc, field, Place { sheet, row, col }, room, texts, cells)?;
     }

@@ -10,7 +10,7 @@ pub loop-before-preserved : goal.loop-before-preserved
 loop-before-preserved c =
     let inv = c.loop-before.invariant in
     let n = c.loop-before.before in
-    let fields = fields_of c.args.record.now in
+    let fields = fields_of c.args.fields.now in
     let step = rw c.in-Some.is at c.next.ensures.steps in
     let field : field_at fields n ≡ Some c.in-Some.field.now = ap (λ (r : Row). field_at (fields_of r) n) (sym inv.reads) ∙ ap (field_at (fields_of c.loop-before.field-iterator.row.now)) (sym inv.reads_at) ∙ sym step.1 in
     let (here, same) = field_there fields n c.in-Some.field.now field in
@@ -31,7 +31,7 @@ returns-in_err-read_field-clause-fault c =
     let p = err_from_is_err_and c.from_residual.result c.from_residual.ensures.1 in
     let inv = c.loop-before.invariant in
     let n = c.loop-before.before in
-    let fields = fields_of c.args.record.now in
+    let fields = fields_of c.args.fields.now in
     let step = rw c.in-Some.is at c.next.ensures.steps in
     let field : field_at fields n ≡ Some c.in-Some.field.now = ap (λ (r : Row). field_at (fields_of r) n) (sym inv.reads) ∙ ap (field_at (fields_of c.loop-before.field-iterator.row.now)) (sym inv.reads_at) ∙ sym step.1 in
     let (here, same) = field_there fields n c.in-Some.field.now field in
@@ -47,7 +47,7 @@ pub returns-clause-cells : goal.returns-clause-cells
 returns-clause-cells c =
     let inv = c.loop-before.invariant in
     let n = c.loop-before.before in
-    let fields = fields_of c.args.record.now in
+    let fields = fields_of c.args.fields.now in
     let step = rw c.in-None.is at c.next.ensures.steps in
     let none : field_at fields n ≡ None = ap (λ (r : Row). field_at (fields_of r) n) (sym inv.reads) ∙ ap (field_at (fields_of c.loop-before.field-iterator.row.now)) (sym inv.reads_at) ∙ sym step.1 in
     let done = placed_done c.args.row (n + 1) n fields (field_gone fields n none) in
@@ -57,7 +57,7 @@ pub returns-clause-passed : goal.returns-clause-passed
 returns-clause-passed c rest =
     let inv = c.loop-before.invariant in
     let n = c.loop-before.before in
-    let fields = fields_of c.args.record.now in
+    let fields = fields_of c.args.fields.now in
     let step = rw c.in-None.is at c.next.ensures.steps in
     let none : field_at fields n ≡ None = ap (λ (r : Row). field_at (fields_of r) n) (sym inv.reads) ∙ ap (field_at (fields_of c.loop-before.field-iterator.row.now)) (sym inv.reads_at) ∙ sym step.1 in
     let done = placed_done c.args.row (n + 1) n fields (field_gone fields n none) in

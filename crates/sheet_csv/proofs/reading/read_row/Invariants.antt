@@ -11,12 +11,12 @@ use Rattle.sheet_csv.proofs.reading.read_row.Given as goal
 abbrev pub invariant-loop-before : goal.invariant-loop-before
 invariant-loop-before l =
     let n = l.before in
-    let left = placed l.row (n + 1) (drop n (fields_of l.record)) in
+    let left = placed l.row (n + 1) (drop n (fields_of l.fields)) in
     record {
-      reads : l.field-iterator.row.now ≡ l.record;
+      reads : l.field-iterator.row.now ≡ l.fields;
       reads_at : l.field-iterator.at ≡ n;
-      cells : fold (with_field l.sheet) (l.texts, l.cells.items) left ≡ fold (with_field l.sheet) (l.initial.texts, l.initial.cells.items) (row_fields (l.row, fields_of l.record));
-      passed : (rest : List Field) → first_fault (l.room - vec_len l.initial.cells) (row_fields (l.row, fields_of l.record) ++ rest) ≡ first_fault (l.room - vec_len l.cells) (left ++ rest);
+      cells : fold (with_field l.sheet) (l.texts, l.cells.items) left ≡ fold (with_field l.sheet) (l.initial.texts, l.initial.cells.items) (row_fields (l.row, fields_of l.fields));
+      passed : (rest : List Field) → first_fault (l.room - vec_len l.initial.cells) (row_fields (l.row, fields_of l.fields) ++ rest) ≡ first_fault (l.room - vec_len l.cells) (left ++ rest);
       kept : KeepsTexts l.initial.texts l.texts;
       within : vec_len l.cells ≤ max (vec_len l.initial.cells) l.room;
       there : All (λ cell. IsRawOf l.initial.texts cell.1) l.initial.cells.items → All (λ cell. IsRawOf l.texts cell.1) l.cells.items;
