@@ -1,5 +1,0 @@
-pub mod Stacks
-pub mod Machine
-pub mod Cells
-pub mod Told
-pub mod Laws
