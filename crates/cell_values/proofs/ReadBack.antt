@@ -15,7 +15,7 @@ use Rattle.cell_values.specs.CellText.{letter_value, column_number, up_to, named
 own : IsNumeralModel (λ ds. all_ascii_digits ds ≡ true) (digits_value 10)
 own = numerals_by_value _ tells_all_ascii_digits
 
-digits_no_letter : (ds : List ℕ) → all_ascii_digits ds ≡ true → prefix_len is_ascii_alphabetic ds ≡ 0
+pub digits_no_letter : (ds : List ℕ) → all_ascii_digits ds ≡ true → prefix_len is_ascii_alphabetic ds ≡ 0
 digits_no_letter [] h = refl
 digits_no_letter (d ∷ ds) h = grind (arith, nat_tests)
 
@@ -23,7 +23,7 @@ cons_len : (b : Bool) (n m : ℕ) → b ≡ true → n ≡ m → cond b (1 + n) 
 cons_len true n m h e = ap (λ k. 1 + k) e
 cons_len false n m h e = cc
 
-letters_len : (letters ds : List ℕ) → list_all is_ascii_alphabetic letters ≡ true → prefix_len is_ascii_alphabetic ds ≡ 0 → prefix_len is_ascii_alphabetic (letters ++ ds) ≡ length letters
+pub letters_len : (letters ds : List ℕ) → list_all is_ascii_alphabetic letters ≡ true → prefix_len is_ascii_alphabetic ds ≡ 0 → prefix_len is_ascii_alphabetic (letters ++ ds) ≡ length letters
 letters_len [] ds h e = e
 letters_len (c ∷ rest) ds h e =
     let parts = and_parts (is_ascii_alphabetic c) (list_all is_ascii_alphabetic rest) h in
@@ -36,9 +36,9 @@ capital_is_letter : (c : ℕ) → 65 ≤ c → c ≤ 90 → is_ascii_alphabetic 
 capital_is_letter c low high = grind (arith, nat_tests)
 
 -- the letters of a column are letters, and name it
-record Names (col : ℕ) (letters : List ℕ) : Type 0 where
-  all_letters : list_all is_ascii_alphabetic letters ≡ true
-  value : column_number letters ≡ col
+pub record Names (col : ℕ) (letters : List ℕ) : Type 0 where
+  pub all_letters : list_all is_ascii_alphabetic letters ≡ true
+  pub value : column_number letters ≡ col
 
 one_names : (col : ℕ) → 1 ≤ col → col ≤ 26 → Names col ((65 + (col - 1) % 26) ∷ [])
 one_names col low high =
@@ -64,7 +64,7 @@ names_by : (col : ℕ) (two : Bool) → nat_lt 26 col ≡ two → 1 ≤ col → 
 names_by col true e low high = two_names col (ltb-true 26 col e) high
 names_by col false e low high = one_names col low (ltb-false 26 col e)
 
-column_letters_name : (col : ℕ) → 1 ≤ col → col ≤ 256 → Names col (column_letters col)
+pub column_letters_name : (col : ℕ) → 1 ≤ col → col ≤ 256 → Names col (column_letters col)
 unfolding column_letters
 column_letters_name col low high = names_by col (nat_lt 26 col) refl low high
 

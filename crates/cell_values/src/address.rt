@@ -97,9 +97,9 @@ fn read_row(digits: &[u8]) -> Option<u32>
     if row == 0 { None } else { Some(row) }
 }
 
-/// The column in capitals.
+/// The letters of a column in capitals, such as `IV`.
 #[tactic(auto, using(std::proofs::lemmas::Str::encode_ascii), unfolding(crate::specs::CellText::column_letters))]
-fn column_text(alloc: Global, col: u16) -> Result<String, AllocError>
+pub fn column_text(alloc: Global, col: u16) -> Result<String, AllocError>
     requires from { 1 ≤ col }
     requires to { col ≤ 256 }
     ensures { IfOk result (λ text. string_bytes text ≡ column_letters col) }

@@ -7,7 +7,7 @@ pub mod interned;
 pub mod names;
 pub mod values;
 
-pub use address::{Addr, Area};
+pub use address::{Addr, Area, column_text};
 pub use fields::{FieldText, Raw};
 pub use interned::{TextId, Texts};
 pub use names::{NameFault, SheetNames};
