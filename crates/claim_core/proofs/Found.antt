@@ -3,8 +3,8 @@ use Rattle.std.proofs.Common.{◌≡◌, ℕ, ◌<◌, Bool, true, false, cond, 
 use Rattle.cell_values.specs.declared.address.Addr.{Addr}
 use Rattle.cell_values.specs.declared.values.Shown.{Shown}
 use Rattle.cell_values.specs.Addresses.{same_addr}
-use Rattle.formula_grammar.specs.Expr.{Expr, Number, Truth}
-use Rattle.formula_grammar.specs.Mentions.{mentions}
+use Rattle.formula_trees.specs.Expr.{Expr, Number, Truth}
+use Rattle.formula_trees.specs.Mentions.{mentions}
 use mathlib.Core.Logic.{inl, inr}
 use Rattle.cell_values.specs.declared.values.Value.{Value}
 use Rattle.demand_spec.specs.Book.{Content, Formula, formula_of, formula_at, shown, own, finished, formulas, ask_cell}

@@ -4,7 +4,7 @@ use Rattle.cell_values.specs.declared.address.Addr.{Addr}
 use Rattle.cell_values.specs.declared.values.Shown.{Shown}
 use Rattle.cell_words.specs.declared.cell_word.CellWord.{CellWord}
 use Rattle.cell_words.specs.declared.cell_word.CellWord.TheVariants.{Claimed}
-use Rattle.formula_grammar.specs.Expr as expr
+use Rattle.formula_trees.specs.Expr as expr
 use Rattle.demand_spec.specs.Book.{Book, Formula}
 use Rattle.claim_core.specs.declared.view.View.{View}
 use Rattle.claim_core.specs.Rule.{Seen, SeenDone, shown_in}

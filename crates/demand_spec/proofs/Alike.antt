@@ -7,23 +7,24 @@ use Rattle.cell_values.specs.declared.address.Addr.{Addr}
 use Rattle.cell_values.specs.declared.address.Area.{Area}
 use Rattle.cell_values.specs.declared.values.Code.{Code}
 use Rattle.cell_values.specs.declared.values.Value.{Value}
-use Rattle.formula_grammar.specs.declared.tree.Op.{Op}
-use Rattle.formula_grammar.specs.declared.tree.Sign.{Sign}
-use Rattle.formula_grammar.specs.declared.tree.Fun.{Fun}
-use Rattle.formula_grammar.specs.Expr.{Expr, Exprs, Number, Text, Truth, Ref, Range, RefError, Unary, Binary, Call, End, More}
+use Rattle.formula_trees.specs.declared.tree.Op.{Op}
+use Rattle.formula_trees.specs.declared.tree.Sign.{Sign}
+use Rattle.formula_trees.specs.declared.tree.Fun.{Fun}
+use Rattle.formula_trees.specs.Expr.{Expr, Exprs, Number, Text, Truth, Ref, Range, RefError, Unary, Binary, Call, End, More}
 use Rattle.demand_spec.specs.Plan.{Plan, Give, Demand, and_then}
 use Rattle.cell_values.specs.Texts.{Texts}
 use Rattle.builtin_functions.specs.Tables.{number, is_error, is_zero, as_number, quotient, with_sign_of, modulo, with_numbers, with_number, order, ordered, table, sign_table, condition}
 use Rattle.builtin_functions.specs.declared.operators.Op2.{Op2}
 use Rattle.builtin_functions.specs.declared.operators.Sign2.{Sign2}
 use Rattle.builtin_functions.specs.declared.folds.FoldKind.{FoldKind}
-use Rattle.formula_grammar.specs.References.{resolve, area_between}
+use Rattle.formula_trees.specs.References.{resolve, area_between}
 use Rattle.cell_values.specs.Areas.{numbers_from, height, width, cell_of, row_of, column_of, walk}
 use Rattle.demand_spec.specs.Formula.{fails, unless_error, value_of, or_fail, condition_of, if_number, Argument, if_cells, if_up_to, if_plan, and_plan, or_plan, not_plan, value_at, from_one, chosen, choose_plan, if_error_plan, is_error_plan, go_on, fold_cells, fold_argument, fold_plan, one_number, two_numbers, is_found, search_plan, index_plan, match_plan, v_lookup_plan, h_lookup_plan, call_plan, demand_of, op_of, sign_of, plan, arguments}
-use Rattle.formula_grammar.specs.Mentions.{Place, Nowhere, Bad, Cells, place_from, place_of, cells_of, mentions, mentions_all}
+use Rattle.formula_trees.specs.Mentions.{Place, Nowhere, Bad, Cells, place_from, place_of, cells_of, mentions, mentions_all}
 use Rattle.builtin_functions.specs.Folds.{Total, taken}
 use Rattle.demand_spec.specs.Laws.{In}
-use Rattle.demand_spec.specs.TextNumbers.{TextBelow, TextsBelow, AllTextsBelow}
+use Rattle.formula_trees.specs.TextNumbers.{TextsBelow, AllTextsBelow}
+use Rattle.demand_spec.specs.TextNumbers.{TextBelow}
 use Rattle.demand_spec.proofs.Walks.{in_left, in_right, in_walk, walk_one, in_column, in_row, length-numbers_from}
 
 -- Two plans that demand the same cells, all in the list, and give the same, as long as each text has a number of which n holds.

@@ -4,7 +4,7 @@ use Rattle.std.proofs.lemmas.Bool.{cases_Bool, or_cases, or_left, or_right}
 use Rattle.std.proofs.lemmas.List.{get_or_past}
 use Rattle.cell_values.specs.declared.address.Addr.{Addr}
 use Rattle.cell_values.specs.declared.values.Shown.{Shown}
-use Rattle.formula_grammar.specs.Expr.{Expr}
+use Rattle.formula_trees.specs.Expr.{Expr}
 use Rattle.cell_values.specs.Addresses.{same_addr}
 use Rattle.demand_spec.specs.Book.{Book, formula_at, ask_formula, ask_cell, cell_needed, formulas, finished, need, follow, is_at, returns, shown}
 use Rattle.demand_spec.specs.Laws.{In, Unfinished, NeedChain, Distinct, OnLoop, LoopsAreFound}

@@ -7,8 +7,8 @@ use Rattle.cell_values.specs.declared.values.Shown.{Shown}
 use Rattle.cell_values.specs.declared.values.Value.{Value}
 use Rattle.cell_values.specs.Addresses.{same_addr}
 use Rattle.cell_values.specs.Texts.{Texts}
-use Rattle.formula_grammar.specs.Expr.{Expr}
-use Rattle.formula_grammar.specs.declared.tree.Tree.{Tree}
+use Rattle.formula_trees.specs.Expr.{Expr}
+use Rattle.formula_trees.specs.declared.tree.Tree.{Tree}
 use Rattle.demand_spec.specs.declared.Cell.{Cell}
 use Rattle.demand_spec.specs.Book.{Book, Content, Known, cell_in, formula_of, formula_at, ask_formula, value_given, ask_cell, round, rounds, with_formula, formulas_in, formulas, finished, need, follow, is_at, returns, shown}
 use Rattle.demand_spec.specs.Laws.{In, Distinct, PartOf}

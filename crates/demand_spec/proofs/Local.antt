@@ -5,11 +5,12 @@ use Rattle.cell_values.specs.declared.address.Addr.{Addr}
 use Rattle.cell_values.specs.declared.values.Value.{Value}
 use Rattle.demand_spec.specs.declared.Asked.{Asked}
 use Rattle.demand_spec.specs.declared.Asked.TheVariants.{Val, Needs}
-use Rattle.formula_grammar.specs.Expr.{Expr, Exprs, Number, Text, Truth, Ref, Range, RefError, Unary, Binary, Call, End, More}
+use Rattle.formula_trees.specs.Expr.{Expr, Exprs, Number, Text, Truth, Ref, Range, RefError, Unary, Binary, Call, End, More}
 use Rattle.demand_spec.specs.Plan.{Plan, Give, Demand, after, run}
 use Rattle.demand_spec.specs.Formula.{plan}
-use Rattle.formula_grammar.specs.Mentions.{mentions}
-use Rattle.demand_spec.specs.TextNumbers.{TextBelow, TextsBelow, AllTextsBelow}
+use Rattle.formula_trees.specs.Mentions.{mentions}
+use Rattle.formula_trees.specs.TextNumbers.{TextsBelow, AllTextsBelow}
+use Rattle.demand_spec.specs.TextNumbers.{TextBelow}
 use Rattle.demand_spec.specs.Book.{Book, Known, formula_at, own, look_at, look, ask, ask_formula, ask_cell, value_given, cell_needed, round, rounds, formulas, finished, need, follow, returns, shown, shown_from}
 use Rattle.demand_spec.specs.Laws.{In, Unfinished, IsLoop, Mentions, NeedIsMentioned, NeedIsThere, IsClosed, Reached, start, step, Pending, Set, OfSet, SameOutside, TextsStay, PendingIsClosed, LoopInClosed, ShowsSame}
 use Rattle.demand_spec.proofs.Rounds.{Lacks, look_lacks, finished_again, rounds_stay}

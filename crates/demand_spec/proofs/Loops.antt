@@ -4,7 +4,7 @@ use Rattle.std.proofs.lemmas.List.{get_or_past}
 use Rattle.cell_values.specs.declared.address.Addr.{Addr}
 use Rattle.demand_spec.specs.declared.Asked.{Asked}
 use Rattle.demand_spec.specs.declared.Asked.TheVariants.{Val, Needs}
-use Rattle.formula_grammar.specs.Expr.{Expr}
+use Rattle.formula_trees.specs.Expr.{Expr}
 use Rattle.demand_spec.specs.Formula.{plan}
 use Rattle.demand_spec.specs.Book.{Book, formula_at, look, ask, ask_formula, ask_cell, value_given, cell_needed, rounds, formulas, finished, need, follow}
 use Rattle.demand_spec.specs.Laws.{In, Demands, Chain, NeedChain, Distinct, HasPeriod, IsLoop, StackCloses, Carried}

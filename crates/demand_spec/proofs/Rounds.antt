@@ -5,7 +5,7 @@ use Rattle.cell_values.specs.declared.address.Addr.{Addr}
 use Rattle.cell_values.specs.declared.values.Value.{Value}
 use Rattle.demand_spec.specs.declared.Asked.{Asked}
 use Rattle.demand_spec.specs.declared.Asked.TheVariants.{Val, Needs}
-use Rattle.formula_grammar.specs.Expr.{Expr}
+use Rattle.formula_trees.specs.Expr.{Expr}
 use Rattle.cell_values.specs.Addresses.{same_addr}
 use Rattle.demand_spec.specs.Formula.{plan}
 use Rattle.demand_spec.specs.Book.{Book, Content, Number, Text, Truth, Formula, Known, cell_in, formula_of, formula_at, own, look_at, look, ask, ask_formula, ask_cell, value_given, round, rounds, with_formula, formulas_in, formulas, finished}

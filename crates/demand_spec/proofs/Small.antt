@@ -3,10 +3,10 @@ use Rattle.std.proofs.Common.{◌≡◌, ℕ, ◌≤◌, ◌&&◌, true, nat_le,
 use Rattle.cell_values.specs.declared.address.Addr.{Addr}
 use Rattle.cell_values.specs.Addresses.{IsOnSheet}
 use Rattle.cell_values.specs.Texts.{Texts}
-use Rattle.formula_grammar.specs.declared.tree.Part.{Part}
-use Rattle.formula_grammar.specs.Expr.{Ref}
-use Rattle.formula_grammar.specs.References.{resolve}
-use Rattle.formula_grammar.specs.Sound.{IsSound}
+use Rattle.formula_trees.specs.declared.tree.Part.{Part}
+use Rattle.formula_trees.specs.Expr.{Ref}
+use Rattle.formula_trees.specs.References.{resolve}
+use Rattle.formula_trees.specs.Sound.{IsSound}
 use Rattle.demand_spec.specs.Book.{Content}
 use Rattle.demand_spec.specs.Listed.{IsContentOf, AreCellsOf}
 

@@ -4,15 +4,16 @@ use Rattle.cell_values.specs.declared.address.Addr.{Addr}
 use Rattle.cell_values.specs.declared.values.Value.{Value}
 use Rattle.cell_values.specs.Addresses.{same_addr}
 use Rattle.cell_values.specs.Texts.{Texts}
-use Rattle.formula_grammar.specs.Expr.{Expr}
-use Rattle.formula_grammar.specs.Mentions.{mentions}
+use Rattle.formula_trees.specs.Expr.{Expr}
+use Rattle.formula_trees.specs.Mentions.{mentions}
 use Rattle.builtin_functions.specs.Tables.{IsValueOf}
 use Rattle.demand_spec.specs.declared.Asked.{Asked}
 use Rattle.demand_spec.specs.declared.Asked.TheVariants.{Val, Needs}
 use Rattle.demand_spec.specs.Plan.{Plan, Give, Demand, after, run}
 use Rattle.demand_spec.specs.Formula.{plan}
 use Rattle.demand_spec.specs.Book.{Book, Content, Known, cell_in, formula_of, own_of, formula_at, own, look_at, look, ask, ask_formula, ask_cell, value_given, formulas, finished, rounds}
-use Rattle.demand_spec.specs.TextNumbers.{TextBelow, TextsBelow}
+use Rattle.formula_trees.specs.TextNumbers.{TextsBelow}
+use Rattle.demand_spec.specs.TextNumbers.{TextBelow}
 use Rattle.demand_spec.specs.Listed.{value_in, IsFormulaOf, IsContentOf, AreCellsOf, AreKnownOf}
 use Rattle.demand_spec.specs.Asks.{any_value, value_or_end}
 use Rattle.demand_spec.specs.Given.{IsAnswerOf}

@@ -6,8 +6,8 @@ use Rattle.cell_values.specs.declared.values.Code.{Code}
 use Rattle.cell_values.specs.declared.values.Value.{Value}
 use Rattle.cell_values.specs.Areas.{height, width, cell_of, row_of, column_of, walk}
 use Rattle.cell_values.specs.Texts.{Texts}
-use Rattle.formula_grammar.specs.Expr.{Expr, Exprs}
-use Rattle.formula_grammar.specs.Mentions.{Place, Nowhere, Bad, Cells}
+use Rattle.formula_trees.specs.Expr.{Expr, Exprs}
+use Rattle.formula_trees.specs.Mentions.{Place, Nowhere, Bad, Cells}
 use Rattle.builtin_functions.specs.declared.operators.Op2.{Op2}
 use Rattle.builtin_functions.specs.declared.folds.FoldKind.{FoldKind}
 use Rattle.builtin_functions.specs.Tables.{as_number, condition, is_error, table}

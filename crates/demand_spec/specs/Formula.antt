@@ -6,12 +6,12 @@ use Rattle.cell_values.specs.declared.values.Code.{Code}
 use Rattle.cell_values.specs.declared.values.Value.{Value}
 use Rattle.cell_values.specs.Areas.{height, width, cell_of, row_of, column_of, walk}
 use Rattle.cell_values.specs.Texts.{Texts}
-use Rattle.formula_grammar.specs.declared.tree.Fun.{Fun}
-use Rattle.formula_grammar.specs.declared.tree.Op.{Op}
-use Rattle.formula_grammar.specs.declared.tree.Sign.{Sign}
-use Rattle.formula_grammar.specs.Expr.{Expr, Exprs, Number, Text, Truth, Ref, Range, RefError, Unary, Binary, Call, End, More}
-use Rattle.formula_grammar.specs.References.{resolve}
-use Rattle.formula_grammar.specs.Mentions.{Place, Nowhere, Bad, Cells, place_of}
+use Rattle.formula_trees.specs.declared.tree.Fun.{Fun}
+use Rattle.formula_trees.specs.declared.tree.Op.{Op}
+use Rattle.formula_trees.specs.declared.tree.Sign.{Sign}
+use Rattle.formula_trees.specs.Expr.{Expr, Exprs, Number, Text, Truth, Ref, Range, RefError, Unary, Binary, Call, End, More}
+use Rattle.formula_trees.specs.References.{resolve}
+use Rattle.formula_trees.specs.Mentions.{Place, Nowhere, Bad, Cells, place_of}
 use Rattle.builtin_functions.specs.declared.operators.Op2.{Op2}
 use Rattle.builtin_functions.specs.declared.operators.Sign2.{Sign2}
 use Rattle.builtin_functions.specs.declared.folds.FoldKind.{FoldKind}

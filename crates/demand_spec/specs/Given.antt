@@ -4,8 +4,8 @@ use Rattle.cell_values.specs.declared.address.Addr.{Addr}
 use Rattle.cell_values.specs.declared.values.Code.{Code}
 use Rattle.cell_values.specs.declared.values.Value.{Value}
 use Rattle.cell_values.specs.Texts.{Texts}
-use Rattle.formula_grammar.specs.Expr.{Expr, Exprs, End, More}
-use Rattle.formula_grammar.specs.Mentions.{Place, place_of}
+use Rattle.formula_trees.specs.Expr.{Expr, Exprs, End, More}
+use Rattle.formula_trees.specs.Mentions.{Place, place_of}
 use Rattle.builtin_functions.specs.declared.operators.Op2.{Op2}
 use Rattle.builtin_functions.specs.declared.operators.Sign2.{Sign2}
 use Rattle.builtin_functions.specs.Tables.{IsValueOf, as_number, is_error, unary_value, binary_value}

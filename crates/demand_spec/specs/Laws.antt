@@ -3,9 +3,10 @@ use Rattle.std.specs.Prelude.{◌≡◌, ℕ, suc, ◌<◌, Bool, true, ◌↔�
 use Rattle.cell_values.specs.declared.address.Addr.{Addr}
 use Rattle.cell_values.specs.declared.values.Value.{Value}
 use Rattle.demand_spec.specs.declared.Asked.TheVariants.{Val, Needs}
-use Rattle.formula_grammar.specs.Expr.{Expr}
-use Rattle.formula_grammar.specs.Mentions.{mentions}
-use Rattle.demand_spec.specs.TextNumbers.{TextBelow, TextsBelow}
+use Rattle.formula_trees.specs.Expr.{Expr}
+use Rattle.formula_trees.specs.Mentions.{mentions}
+use Rattle.formula_trees.specs.TextNumbers.{TextsBelow}
+use Rattle.demand_spec.specs.TextNumbers.{TextBelow}
 use Rattle.demand_spec.specs.Book.{Book, Known, ask, formula_at, formulas, rounds, own, finished, need, follow, returns, shown}
 
 -- `e` is a part of `f`

@@ -6,12 +6,12 @@ use Rattle.cell_values.specs.declared.values.Shown.{Shown}
 use Rattle.cell_values.specs.declared.values.Value.{Value}
 use Rattle.cell_values.specs.Addresses.{same_addr, IsBefore, IsOnSheet}
 use Rattle.cell_values.specs.Texts.{Texts, IsTextOf}
-use Rattle.formula_grammar.specs.Expr.{Expr, Exprs, expr_of}
-use Rattle.formula_grammar.specs.Sound.{IsSound}
+use Rattle.formula_trees.specs.Expr.{Expr, Exprs, expr_of}
+use Rattle.formula_trees.specs.Sound.{IsSound}
 use Rattle.builtin_functions.specs.Tables.{IsValueOf}
 use Rattle.demand_spec.specs.declared.Cell.{Cell}
 use Rattle.demand_spec.specs.Book.{Book, Content, Known, formulas, shown}
-use Rattle.demand_spec.specs.TextNumbers.{TextsBelow, AllTextsBelow}
+use Rattle.formula_trees.specs.TextNumbers.{TextsBelow, AllTextsBelow}
 
 abbrev pub content_of : Cell → Content
 content_of (Cell.Number n) = Content.Number n

@@ -1,6 +1,6 @@
 -- Where an argument stands, as the evaluator sees it.
 use Rattle.cell_values.specs.Areas.{IsArea}
-use Rattle.formula_grammar.specs.Mentions.{Place, Nowhere, Bad, Cells}
+use Rattle.formula_trees.specs.Mentions.{Place, Nowhere, Bad, Cells}
 use Rattle.demand_spec.specs.declared.places.Place.{Place as Seen}
 
 abbrev pub seen : Place → Seen

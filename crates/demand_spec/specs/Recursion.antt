@@ -5,13 +5,13 @@ use Rattle.cell_values.specs.declared.interned.TextId.{TextId}
 use Rattle.cell_values.specs.declared.values.Code.{Code}
 use Rattle.cell_values.specs.declared.values.Value.{Value}
 use Rattle.cell_values.specs.Areas.{height, width, cell_of, row_of, column_of, walk}
-use Rattle.formula_grammar.specs.declared.tree.Fun.{Fun}
-use Rattle.formula_grammar.specs.declared.tree.Op.{Op}
-use Rattle.formula_grammar.specs.declared.tree.Reference.{Reference}
-use Rattle.formula_grammar.specs.declared.tree.Sign.{Sign}
-use Rattle.formula_grammar.specs.Expr.{Expr, Exprs, Number, Text, Truth, Ref, RefError, Unary, Binary, Call, End, More}
-use Rattle.formula_grammar.specs.Mentions.{place_of}
-use Rattle.formula_grammar.specs.References.{resolve}
+use Rattle.formula_trees.specs.declared.tree.Fun.{Fun}
+use Rattle.formula_trees.specs.declared.tree.Op.{Op}
+use Rattle.formula_trees.specs.declared.tree.Reference.{Reference}
+use Rattle.formula_trees.specs.declared.tree.Sign.{Sign}
+use Rattle.formula_trees.specs.Expr.{Expr, Exprs, Number, Text, Truth, Ref, RefError, Unary, Binary, Call, End, More}
+use Rattle.formula_trees.specs.Mentions.{place_of}
+use Rattle.formula_trees.specs.References.{resolve}
 use Rattle.builtin_functions.specs.declared.operators.Op2.{Op2}
 use Rattle.builtin_functions.specs.declared.operators.Sign2.{Sign2}
 use Rattle.builtin_functions.specs.declared.folds.FoldKind.{FoldKind}

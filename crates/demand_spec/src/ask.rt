@@ -7,17 +7,17 @@ ghost use Rattle.demand_spec.specs.Formula.{op_of, sign_of};
 ghost use Rattle.demand_spec.specs.Given.{argument_of, given_by, AreGivenOf, HaveAreas, IsAnswerOf};
 ghost use Rattle.demand_spec.specs.Listed.{IsFormulaOf, AreArgumentsOf};
 ghost use Rattle.demand_spec.specs.Places.{HasArea};
-ghost use Rattle.formula_grammar.specs.Expr.{expr_of, exprs_of, Call};
+ghost use Rattle.formula_trees.specs.Expr.{expr_of, exprs_of, Call};
 
 use crate::Asked;
 use crate::calls::{call_if, call_if_error, call_is_error, call_not, call_operator, call_sign};
 use crate::ends::fails;
 use crate::given::{Argument, Given, if_then, index_of, operator_of_two, sign_of_one};
-use crate::places::{place_at, resolve};
+use crate::places::place_at;
 use crate::stage::Stage;
 use builtin_functions::{FoldKind, Op2, Sign2};
 use cell_values::{Addr, Code, Int, Value};
-use formula_grammar::{Args, Fun, Op, Sign, Tree};
+use formula_trees::{Args, Fun, Op, Sign, Tree, resolve};
 
 /// The operator of a sign.
 fn sign_of(sign: Sign) -> Sign2

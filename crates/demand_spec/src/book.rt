@@ -25,7 +25,7 @@ impl Model for PlainBook {
     ghost Value = { List (Addr × Content) };
 
     ghost use Rattle.std.specs.Coded.{codes};
-    ghost use Rattle.formula_grammar.specs.ExprCode.{expr_code};
+    ghost use Rattle.formula_trees.specs.ExprCode.{expr_code};
 
     ghost coded = { Prim.hlevel (codes, expr_code) };
 

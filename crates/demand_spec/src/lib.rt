@@ -21,7 +21,7 @@ mod whole;
 
 pub use book::PlainBook;
 use cell_values::{Addr, Int, TextId, Value};
-use formula_grammar::Tree;
+use formula_trees::Tree;
 pub use slow::slow_shown;
 pub use view::{BookView, Results};
 

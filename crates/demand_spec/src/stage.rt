@@ -25,7 +25,7 @@ impl<'a> Model for Stage<'a> {
     ghost Value = { Sight };
 
     ghost use Rattle.std.specs.Coded.{codes};
-    ghost use Rattle.formula_grammar.specs.ExprCode.{expr_code};
+    ghost use Rattle.formula_trees.specs.ExprCode.{expr_code};
 
     ghost coded = { Prim.hlevel (codes, expr_code) };
 

@@ -3,13 +3,13 @@ ghost use Rattle.std.specs.Prelude.{◌≡◌, ◌≤◌, IsTrue};
 ghost use Rattle.cell_values.specs.Addresses.{IsBefore, IsOnSheet};
 ghost use Rattle.cell_values.specs.Texts.{Texts as Bytes, IsTextOf};
 ghost use Rattle.demand_spec.specs.Listed.{content_of, contents, IsAfterAll, IsSoundAt, IsContentOf, AreCellsOf, IsFormulaOf, AreArgumentsOf};
-ghost use Rattle.formula_grammar.specs.Expr.{expr_of, exprs_of};
+ghost use Rattle.formula_trees.specs.Expr.{expr_of, exprs_of};
 
 use crate::stage::Stage;
 use crate::whole::finish;
 use crate::{Asked, Cell, PlainBook, slow_shown};
 use cell_values::{Addr, Code, Int, Shown, TextId, Texts, Value};
-use formula_grammar::{Args, Fun, Op, Part, Reference, Sign, Tree};
+use formula_trees::{Args, Fun, Op, Part, Reference, Sign, Tree};
 use std::alloc::{AllocError, Global};
 use std::process::Abort;
 use std::test::Fail;

@@ -1,7 +1,7 @@
 -- A pool's entries and the expressions that they stand for.
 use Rattle.std.proofs.Common.{◌≡◌, ℕ, zero, suc, ◌+◌, ◌<◌, ◌≤◌, ◌⊎◌, ⊎_elim, max, Option, Some, None, Result, Ok, Err, IfOk, option_map, List, [], ◌∷◌, ◌++◌, length, take, drop, get_or, refl, sym, ap, ◌∙◌, subst, arith, length-append}
 use Rattle.std.proofs.lemmas.List.{get_or_append_left, get_or_at, get_or-take, get_or-drop, length-take-le, length-drop, take-append-drop, drop-append-le, take-append-le, drop_at, take_all}
-use Rattle.formula_grammar.specs.Expr.{Expr, Exprs, End, More}
+use Rattle.formula_trees.specs.Expr.{Expr, Exprs, End, More}
 use Rattle.shared_expressions.specs.declared.nodes.Node.{Node}
 use Rattle.shared_expressions.specs.declared.store.Entry.{Entry}
 use Rattle.shared_expressions.specs.Trees.{Trees, expr_at, root_of, nth, child_of, depth, depth_all, KeepsTrees, StandsFor}

@@ -2,3 +2,4 @@ pub mod Spelling
 pub mod Entries
 pub mod Named
 pub mod Lookup
+pub mod There

@@ -8,9 +8,9 @@ use Rattle.std.specs.Map.{KeepsOthers, AreApart, IsKeyTest, lookup}
 use Rattle.std.specs.BTreeMap.{UpdatesBy}
 use Rattle.std.proofs.lemmas.Cmp.{int_cmp_total, lists_total, eq_by_cmp_equiv, tied_itself}
 use Rattle.std.proofs.lemmas.Map.Lookups.{exact_signed}
-use Rattle.formula_grammar.specs.declared.tree.Sign.{Sign}
-use Rattle.formula_grammar.specs.declared.tree.Op.{Op}
-use Rattle.formula_grammar.specs.declared.tree.Fun.{Fun}
+use Rattle.formula_trees.specs.declared.tree.Sign.{Sign}
+use Rattle.formula_trees.specs.declared.tree.Op.{Op}
+use Rattle.formula_trees.specs.declared.tree.Fun.{Fun}
 use Rattle.shared_expressions.specs.declared.nodes.Node.{Node}
 use Rattle.shared_expressions.specs.declared.store.Entry.{Entry}
 use Rattle.shared_expressions.specs.declared.store.Store.{Store}
@@ -18,7 +18,7 @@ use Rattle.shared_expressions.specs.Trees.{Trees, expr_at, KeepsTrees, StandsFor
 use Rattle.shared_expressions.specs.Keys.{key_of}
 use Rattle.shared_expressions.specs.Stored.{leaf, seen, grown, parts, entry_at, trees, HasCount, AllBelow, key_at, number_of, IsIndexed, IsStore, deepest, Stands, Grows}
 use Rattle.shared_expressions.proofs.Spelling.{key_apart}
-use Rattle.shared_expressions.proofs.Entries.{IsSame, lt_or_le, parts_more, pooled, length-parts, counted_parts, found_stands, more_children, same_trees, grown_same, new_pool, new_kept, new_stands, old_entry, new_entry_at, new_entry_parts}
+use Rattle.shared_expressions.proofs.Entries.{IsSame, lt_or_le, length-grown, parts_more, pooled, length-parts, counted_parts, found_stands, more_children, same_trees, grown_same, new_pool, new_kept, new_stands, old_entry, new_entry_at, new_entry_parts}
 
 -- Keys in order
 
@@ -70,7 +70,7 @@ found_entry cs es f n ps i h e =
     let b = key_apart (entry_at es i).node n (parts cs (entry_at es i)) ps k.1 in
     (k.0, found_stands cs es n ps i h.pool k.0 (record { node = b.0; children = b.1 }))
 
-none_same : (cs : List ℕ) (es : List Entry) (f : List ℤ → Option ℕ) (n : Node) (ps : List ℕ) → IsIndexed cs es f → f (key_of n ps) ≡ None → (i : ℕ) → i < length es → IsSame cs (entry_at es i) n ps → ⊥
+pub none_same : (cs : List ℕ) (es : List Entry) (f : List ℤ → Option ℕ) (n : Node) (ps : List ℕ) → IsIndexed cs es f → f (key_of n ps) ≡ None → (i : ℕ) → i < length es → IsSame cs (entry_at es i) n ps → ⊥
 none_same cs es f n ps h e i l s =
     let k : key_at cs es i ≡ key_of n ps = (λ z. key_of (s.node z) (s.children z)) in
     let a : f (key_of n ps) ≡ Some i = ap f (sym k) ∙ h.there i l in
@@ -168,3 +168,6 @@ leaf_seen p (Node.Unary s) xs u b c = absurd (u s refl)
 leaf_seen p (Node.Binary o) xs u b c = absurd (b o refl)
 leaf_seen p (Node.Call f) xs u b c = absurd (c f refl)
 leaf_seen p n xs u b c = refl
+
+pub count_trees : (s : Store) → length (trees s) ≡ length s.entries.items
+count_trees s = omega (arith, length-grown s.children.items [] s.entries.items)

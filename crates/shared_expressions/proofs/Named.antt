@@ -7,10 +7,10 @@ use Rattle.std.proofs.Math.Seq.{drop-cons}
 use Rattle.cell_values.specs.declared.address.Addr.{Addr}
 use Rattle.cell_values.specs.declared.address.Area.{Area}
 use Rattle.cell_values.specs.Areas.{between_cells, numbers_from, height, width, cell_of, row_of, walk}
-use Rattle.formula_grammar.specs.declared.tree.Reference.{Reference}
-use Rattle.formula_grammar.specs.Expr.{Expr, Exprs, End, More}
-use Rattle.formula_grammar.specs.References.{resolve, area_between, area_of}
-use Rattle.formula_grammar.specs.Mentions.{place_from, cells_of, mentions, mentions_all, areas, areas_all}
+use Rattle.formula_trees.specs.declared.tree.Reference.{Reference}
+use Rattle.formula_trees.specs.Expr.{Expr, Exprs, End, More}
+use Rattle.formula_trees.specs.References.{resolve, area_between, area_of}
+use Rattle.formula_trees.specs.Mentions.{place_from, cells_of, mentions, mentions_all, areas, areas_all}
 use Rattle.shared_expressions.specs.declared.nodes.Node.{Node}
 use Rattle.shared_expressions.specs.Trees.{Trees, expr_at}
 use Rattle.shared_expressions.specs.Stored.{row, seen, HasCount, areas_below, Picks}

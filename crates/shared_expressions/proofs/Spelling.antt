@@ -1,11 +1,11 @@
 -- A key spells one node over one list of children.
 use Rattle.std.proofs.Common.{◌≡◌, ℕ, zero, suc, ◌+◌, ◌*◌, ℤ, pos, negsuc, Bool, true, false, Option, Some, None, List, [], ◌∷◌, ◌++◌, map, drop, get_or, refl, sym, ap, ◌∙◌}
 use Rattle.std.proofs.lemmas.Nat.{div-add-mod'}
-use Rattle.formula_grammar.specs.declared.tree.Part.{Part}
-use Rattle.formula_grammar.specs.declared.tree.Reference.{Reference}
-use Rattle.formula_grammar.specs.declared.tree.Sign.{Sign}
-use Rattle.formula_grammar.specs.declared.tree.Op.{Op}
-use Rattle.formula_grammar.specs.declared.tree.Fun.{Fun}
+use Rattle.formula_trees.specs.declared.tree.Part.{Part}
+use Rattle.formula_trees.specs.declared.tree.Reference.{Reference}
+use Rattle.formula_trees.specs.declared.tree.Sign.{Sign}
+use Rattle.formula_trees.specs.declared.tree.Op.{Op}
+use Rattle.formula_trees.specs.declared.tree.Fun.{Fun}
 use Rattle.shared_expressions.specs.declared.nodes.Node.{Node}
 use Rattle.shared_expressions.specs.Keys.{sheet_number, part_kind, part_number, spelled, op_number, fun_number, node_key, key_of}
 

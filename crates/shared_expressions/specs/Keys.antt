@@ -1,10 +1,10 @@
 -- What a node over its children spells: a list of numbers by which it is looked up.
 use Rattle.std.specs.Prelude.{ℕ, suc, ◌/◌, ◌%◌, ℤ, pos, Bool, true, false, Option, Some, None, List, [], ◌∷◌, ◌++◌, map}
-use Rattle.formula_grammar.specs.declared.tree.Part.{Part}
-use Rattle.formula_grammar.specs.declared.tree.Reference.{Reference}
-use Rattle.formula_grammar.specs.declared.tree.Sign.{Sign}
-use Rattle.formula_grammar.specs.declared.tree.Op.{Op}
-use Rattle.formula_grammar.specs.declared.tree.Fun.{Fun}
+use Rattle.formula_trees.specs.declared.tree.Part.{Part}
+use Rattle.formula_trees.specs.declared.tree.Reference.{Reference}
+use Rattle.formula_trees.specs.declared.tree.Sign.{Sign}
+use Rattle.formula_trees.specs.declared.tree.Op.{Op}
+use Rattle.formula_trees.specs.declared.tree.Fun.{Fun}
 use Rattle.shared_expressions.specs.declared.nodes.Node.{Node}
 
 abbrev pub sheet_number : Option ℕ → ℤ

@@ -2,8 +2,8 @@
 use Rattle.std.specs.Prelude.{◌≡◌, flat_map}
 use Rattle.cell_values.specs.declared.address.Addr.{Addr}
 use Rattle.cell_values.specs.Areas.{walk}
-use Rattle.formula_grammar.specs.Expr.{Expr}
-use Rattle.formula_grammar.specs.Mentions.{mentions, areas}
+use Rattle.formula_trees.specs.Expr.{Expr}
+use Rattle.formula_trees.specs.Mentions.{mentions, areas}
 
 -- the cells that a formula mentions are those of its areas, in order
 abbrev pub MentionsAreAreas : Type 0

@@ -5,12 +5,12 @@ use Rattle.std.specs.Cmp.Lexicographic.{slice_cmp}
 use Rattle.std.specs.BTreeMap.{get_by}
 use Rattle.cell_values.specs.declared.address.Addr.{Addr}
 use Rattle.cell_values.specs.declared.address.Area.{Area}
-use Rattle.formula_grammar.specs.Mentions.{areas}
-use Rattle.formula_grammar.specs.Expr.{Expr, Exprs, End, More}
+use Rattle.formula_trees.specs.Mentions.{areas}
+use Rattle.formula_trees.specs.Expr.{Expr, Exprs, End, More}
 use Rattle.shared_expressions.specs.declared.nodes.Node.{Node}
 use Rattle.shared_expressions.specs.declared.store.Entry.{Entry}
 use Rattle.shared_expressions.specs.declared.store.Store.{Store}
-use Rattle.shared_expressions.specs.Trees.{Trees, expr_at, depth, KeepsTrees, StandsFor}
+use Rattle.shared_expressions.specs.Trees.{Trees, expr_at, depth, KeepsTrees, StandsFor, IsThere}
 use Rattle.shared_expressions.specs.Keys.{key_of}
 
 -- the expressions with these numbers
@@ -126,3 +126,8 @@ areas_below at p xs = flat_map (λ x. areas at (expr_at p x)) xs
 abbrev pub Picks : List Area → ℕ → Result Area ℕ → Type 0
 Picks xs k (Ok a) = slice_get xs k ≡ Some a
 Picks xs k (Err further) = k ≡ length xs + further
+
+-- all of these arguments are among the expressions
+abbrev pub AllThere : Trees → Exprs → Type 0
+AllThere p End = Unit {0}
+AllThere p (More a rest) = IsThere p a × AllThere p rest

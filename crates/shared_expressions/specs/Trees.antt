@@ -1,6 +1,6 @@
 -- Expressions by number, and their parts.
 use Rattle.std.specs.Prelude.{◌≡◌, ℕ, zero, suc, ◌<◌, ◌≤◌, max, Option, Some, None, List, length, slice_index_or}
-use Rattle.formula_grammar.specs.Expr.{Expr, Exprs, End, More}
+use Rattle.formula_trees.specs.Expr.{Expr, Exprs, End, More}
 use Rattle.shared_expressions.specs.declared.nodes.ExprId.{ExprId}
 use Rattle.shared_expressions.specs.declared.nodes.Node.{Node}
 
@@ -69,3 +69,9 @@ pub record StandsFor (p : Trees) (id : ExprId) (e : Expr) : Type 0 where
   pub there : id.0 < length p
   pub same : tree_at p id ≡ e
   pub alone : (i : ℕ) → i < length p → expr_at p i ≡ e → i ≡ id.0
+
+-- one of the expressions is the tree
+pub record IsThere (p : Trees) (e : Expr) : Type 0 where
+  pub number : ℕ
+  pub within : number < length p
+  pub same : expr_at p number ≡ e

@@ -1,23 +1,22 @@
 //! Areas that a formula names.
-ghost use Rattle.std.specs.Prelude.{◌≡◌, option_to_list};
-ghost use Rattle.cell_values.specs.Areas.{between_cells};
-ghost use Rattle.formula_grammar.specs.Mentions.{areas};
-ghost use Rattle.formula_grammar.specs.References.{area_of};
+ghost use Rattle.std.specs.Prelude.{option_to_list, IfOk, IfSome};
+ghost use Rattle.cell_values.specs.Areas.{IsArea};
+ghost use Rattle.formula_trees.specs.Mentions.{areas};
 ghost use Rattle.shared_expressions.specs.Trees.{expr_at};
 ghost use Rattle.shared_expressions.specs.Stored.{trees, parts, entry_at, areas_below, IsStore, Picks};
 
 use crate::nodes::Node;
-use crate::references::resolve;
 use crate::store::{Store, entry_at, part};
 use cell_values::{Addr, Area};
-use formula_grammar::Reference;
+use formula_trees::area_of;
 
 /// The area with a number among those of a node, counted from 0; or how many areas further it lies
 /// behind them.
 #[cycle(area)]
 pub fn area_from(store: &Store, id: usize, at: Addr, k: u32) -> Result<Area, u32>
     requires { IsStore store.now }
-    ensures { Picks (areas at (expr_at (trees store.now) id)) k result }
+    ensures picked { Picks (areas at (expr_at (trees store.now) id)) k result }
+    ensures within { IfOk result IsArea }
 {
     match entry_at(&store.entries, id).node {
         Node::Ref(r) => pick(area_of(&r, &r, at), k),
@@ -30,7 +29,8 @@ pub fn area_from(store: &Store, id: usize, at: Addr, k: u32) -> Result<Area, u32
 #[cycle(area)]
 fn area_below(store: &Store, id: usize, at: Addr, k: u32) -> Result<Area, u32>
     requires { IsStore store.now }
-    ensures { Picks (areas_below at (trees store.now) (parts store.now.children.items (entry_at store.now.entries.items id))) k result }
+    ensures picked { Picks (areas_below at (trees store.now) (parts store.now.children.items (entry_at store.now.entries.items id))) k result }
+    ensures within { IfOk result IsArea }
 {
     let mut left = k;
     for j in 0..entry_at(&store.entries, id).count {
@@ -44,34 +44,13 @@ fn area_below(store: &Store, id: usize, at: Addr, k: u32) -> Result<Area, u32>
 
 /// One area or none, as a list of areas.
 fn pick(area: Option<Area>, k: u32) -> Result<Area, u32>
-    ensures { Picks (option_to_list area) k result }
+    requires { IfSome area IsArea }
+    ensures picked { Picks (option_to_list area) k result }
+    ensures within { IfOk result IsArea }
 {
     match area {
         Some(area) if k == 0 => Ok(area),
         Some(_) => Err(k - 1),
         None => Err(k),
-    }
-}
-
-/// The rectangle between two references, if both lie inside the sheet.
-fn area_of(first: &Reference, second: &Reference, at: Addr) -> Option<Area>
-    ensures { result ≡ area_of at first.now second.now }
-{
-    match (resolve(first, at), resolve(second, at)) {
-        (Some(a), Some(b)) => Some(between_cells(a, b)),
-        _ => None,
-    }
-}
-
-/// The rectangle between two cells.
-fn between_cells(a: Addr, b: Addr) -> Area
-    ensures { result ≡ between_cells a b }
-{
-    Area {
-        sheet: a.sheet,
-        top: a.row.min(b.row),
-        left: a.col.min(b.col),
-        bottom: a.row.max(b.row),
-        right: a.col.max(b.col),
     }
 }

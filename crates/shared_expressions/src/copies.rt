@@ -1,12 +1,12 @@
 //! Trees made from stored nodes.
 ghost use Rattle.std.specs.Prelude.{◌≡◌, ◌<◌, IfOk};
-ghost use Rattle.formula_grammar.specs.Expr.{expr_of, exprs_of};
+ghost use Rattle.formula_trees.specs.Expr.{expr_of, exprs_of};
 ghost use Rattle.shared_expressions.specs.Trees.{expr_at};
 ghost use Rattle.shared_expressions.specs.Stored.{leaf, row, parts, entry_at, trees, IsStore};
 
 use crate::nodes::Node;
 use crate::store::{Store, entry_at, part};
-use formula_grammar::{Args, Tree};
+use formula_trees::{Args, Tree};
 use std::alloc::{AllocError, Global};
 
 /// The tree of a node.

@@ -5,7 +5,7 @@ ghost use Rattle.shared_expressions.specs.Stored.{AllBelow};
 
 use crate::nodes::Node;
 use cell_values::Int;
-use formula_grammar::{Fun, Op, Part, Reference, Sign};
+use formula_trees::{Fun, Op, Part, Reference, Sign};
 use std::alloc::{AllocError, Global};
 
 /// The key of a node over its children.

@@ -8,7 +8,6 @@ mod copies;
 mod keys;
 pub mod nodes;
 pub mod pool;
-mod references;
 mod store;
 #[cfg(test)]
 mod tests;

@@ -1,7 +1,7 @@
 //! Expressions by number, and their roots.
 
 use cell_values::{Int, TextId};
-use formula_grammar::{Fun, Op, Reference, Sign};
+use formula_trees::{Fun, Op, Reference, Sign};
 
 /// The number of an expression in its pool. Contracts see it as its tree.
 #[derive(Clone, Copy, Debug, PartialEq, Eq)]

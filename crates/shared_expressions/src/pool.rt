@@ -1,15 +1,17 @@
 //! Pools of expressions.
-ghost use Rattle.std.specs.Prelude.{◌≡◌, length, IfOk, option_map, [], slice_get};
-ghost use Rattle.formula_grammar.specs.Expr.{expr_of};
-ghost use Rattle.formula_grammar.specs.Mentions.{areas};
-ghost use Rattle.shared_expressions.specs.Trees.{root_of, tree_at, child_of, depth, KeepsTrees, StandsFor};
+ghost use Rattle.std.specs.Prelude.{◌≡◌, ◌≤◌, ◌+◌, length, IfOk, IfSome, option_map, [], slice_get};
+ghost use Rattle.cell_values.specs.Areas.{IsArea};
+ghost use Rattle.formula_trees.specs.Expr.{expr_of};
+ghost use Rattle.formula_trees.specs.Mentions.{areas};
+ghost use Rattle.formula_trees.specs.Sound.{nodes};
+ghost use Rattle.shared_expressions.specs.Trees.{root_of, tree_at, child_of, depth, KeepsTrees, StandsFor, IsThere};
 
 use crate::areas::area_from;
 use crate::copies::tree_from;
 use crate::nodes::{ExprId, Node};
 use crate::store::{Store, entry_at, intern_tree, part};
 use cell_values::{Addr, Area};
-use formula_grammar::Tree;
+use formula_trees::Tree;
 use std::alloc::{AllocError, Global};
 use std::collections::BTreeMap;
 use std::marker::Model;
@@ -22,12 +24,12 @@ pub struct Pool {
 
 impl Model for Pool {
     ghost use Rattle.std.specs.Prelude.{List};
-    ghost use Rattle.formula_grammar.specs.Expr.{Expr};
+    ghost use Rattle.formula_trees.specs.Expr.{Expr};
 
     ghost Value = { List Expr };
 
     ghost use Rattle.std.specs.Coded.{coded_list};
-    ghost use Rattle.formula_grammar.specs.ExprCode.{expr_code};
+    ghost use Rattle.formula_trees.specs.ExprCode.{expr_code};
 
     ghost coded = { coded_list expr_code };
 
@@ -66,10 +68,14 @@ impl Pool {
         entry_at(&self.store.entries, id.0).depth
     }
 
-    /// The id of a tree; equal trees have one id.
+    /// The id of a tree; equal trees have one id. A tree that is there adds nothing, another one at most
+    /// one expression for each node.
+    #[tactic(auto, using(crate::proofs::Lookup::count_trees))]
     pub fn intern(&mut self, alloc: Global, tree: &Tree) -> Result<ExprId, AllocError>
         ensures ok { IfOk result (λ id. StandsFor self.new id (expr_of tree.now)) }
         ensures kept { KeepsTrees self.old self.new }
+        ensures few { length self.new ≤ length self.old + nodes (expr_of tree.now) }
+        ensures there { IsThere self.old (expr_of tree.now) → self.new ≡ self.old }
     {
         let number = intern_tree(alloc, &mut self.store, tree)?;
         Ok(ExprId(number))
@@ -97,7 +103,8 @@ impl Pool {
     /// The reference or range with a number, counted from 0 from the left, as an area. One that lies
     /// outside the sheet at the cell is not counted.
     pub fn area(&self, id: ExprId, at: Addr, k: u32) -> Option<Area>
-        ensures { result ≡ slice_get (areas at (tree_at self.now id)) k }
+        ensures area { result ≡ slice_get (areas at (tree_at self.now id)) k }
+        ensures within { IfSome result IsArea }
     {
         area_from(&self.store, id.0, at, k).ok()
     }

@@ -1,14 +1,15 @@
 //! Nodes in a vector, children below parents, each node over its children once.
 ghost use Rattle.std.specs.Prelude.{◌≡◌, ◌<◌, ◌≤◌, ◌+◌, ◌^◌, ◌++◌, [], ◌∷◌, suc, IfOk, IfSome, IfNone, MatchOption, length, slice_index_or};
-ghost use Rattle.formula_grammar.specs.Expr.{expr_of, exprs_of};
-ghost use Rattle.shared_expressions.specs.Trees.{expr_at, KeepsTrees, StandsFor};
+ghost use Rattle.formula_trees.specs.Expr.{expr_of, exprs_of};
+ghost use Rattle.formula_trees.specs.Sound.{nodes, nodes_of};
+ghost use Rattle.shared_expressions.specs.Trees.{expr_at, KeepsTrees, StandsFor, IsThere};
 ghost use Rattle.shared_expressions.specs.Keys.{key_of};
-ghost use Rattle.shared_expressions.specs.Stored.{row, seen, parts, entry_at, trees, HasCount, AllBelow, IsStore, Stands, Grows, number_of, deepest, joined};
+ghost use Rattle.shared_expressions.specs.Stored.{row, seen, parts, entry_at, trees, HasCount, AllBelow, IsStore, Stands, Grows, number_of, deepest, joined, AllThere};
 
 use crate::keys::key_of;
 use crate::nodes::Node;
 use cell_values::Int;
-use formula_grammar::{Args, Tree};
+use formula_trees::{Args, Tree};
 use std::alloc::{AllocError, Global};
 use std::collections::BTreeMap;
 
@@ -73,6 +74,8 @@ fn add(alloc: Global, store: &mut Store, node: Node, parts: &[usize]) -> Result<
     ensures store { IsStore store.new }
     ensures ok { IfOk result (λ i. Stands store.new i (seen (trees store.old) node parts.now)) }
     ensures grows { Grows store.old store.new }
+    ensures few { length store.new.entries.items ≤ length store.old.entries.items + 1 }
+    ensures there { IsThere (trees store.old) (seen (trees store.old) node parts.now) → trees store.new ≡ trees store.old }
 {
     let key = key_of(alloc, node, parts)?;
     match store.index.get(key.as_slice()) {
@@ -96,6 +99,7 @@ fn add_new(
     ensures store { IsStore store.new }
     ensures ok { IfOk result (λ i. Stands store.new i (seen (trees store.old) node parts.now)) }
     ensures grows { Grows store.old store.new }
+    ensures few { length store.new.entries.items ≤ length store.old.entries.items + 1 }
 {
     let number = store.entries.len();
     let entry = Entry {
@@ -118,6 +122,8 @@ pub fn intern_tree(alloc: Global, store: &mut Store, tree: &Tree) -> Result<usiz
     ensures store { IsStore store.new }
     ensures ok { IfOk result (λ i. Stands store.new i (expr_of tree.now)) }
     ensures grows { Grows store.old store.new }
+    ensures few { length store.new.entries.items ≤ length store.old.entries.items + nodes (expr_of tree.now) }
+    ensures there { IsThere (trees store.old) (expr_of tree.now) → trees store.new ≡ trees store.old }
 {
     match tree {
         Tree::Number(n) => add(alloc, store, Node::Number(*n), &[]),
@@ -157,6 +163,8 @@ fn intern_args(
     ensures below { AllBelow (length store.new.entries.items) numbers.new.items }
     ensures ok { IfOk result (λ _. row (trees store.new) numbers.new.items ≡ joined (row (trees store.old) numbers.old.items) (exprs_of args.now)) }
     ensures grows { Grows store.old store.new }
+    ensures few { length store.new.entries.items ≤ length store.old.entries.items + nodes_of (exprs_of args.now) }
+    ensures there { AllThere (trees store.old) (exprs_of args.now) → trees store.new ≡ trees store.old }
 {
     match args {
         Args::End => Ok(()),

@@ -2,7 +2,7 @@
 
 use crate::{Node, Pool};
 use cell_values::{Addr, Area};
-use formula_grammar::{Args, Fun, Op, Part, Reference, Tree};
+use formula_trees::{Args, Fun, Op, Part, Reference, Tree};
 use std::alloc::{AllocError, Global};
 use std::test::Fail;
 

@@ -1,5 +1,4 @@
 use Rattle.shared_expressions.proofs.Named.{mentions_are_areas}
-use Rattle.shared_expressions.proofs.Lookup.{found_entry}
 use Rattle.shared_expressions.proofs.law_mentions_are_areas.Goals as goal
 
 pub returns : goal.returns

@@ -1,5 +1,5 @@
-use Rattle.std.proofs.Common.{◌≡◌, ℕ, List, drop, refl, ap, ◌∙◌, arith}
-use Rattle.formula_grammar.specs.Expr.{Unary, Binary, Call, expr_of}
+use Rattle.std.proofs.Common.{◌≡◌, drop, refl, ap, ◌∙◌, arith}
+use Rattle.formula_trees.specs.Expr.{Unary, Binary, Call, expr_of}
 use Rattle.shared_expressions.specs.declared.nodes.Node.{Node}
 use Rattle.shared_expressions.specs.declared.store.Store.{Store}
 use Rattle.shared_expressions.specs.Trees.{expr_at}

@@ -1,5 +1,5 @@
 use Rattle.std.proofs.Common.{◌≡◌, ◌≤◌, ◌+◌, ◌*◌, drop}
-use Rattle.formula_grammar.specs.Expr.{exprs_of}
+use Rattle.formula_trees.specs.Expr.{exprs_of}
 use Rattle.shared_expressions.specs.Stored.{row, parts, entry_at, trees}
 use Rattle.shared_expressions.proofs.copies.+tree.Given as goal
 

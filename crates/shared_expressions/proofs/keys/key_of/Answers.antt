@@ -1,4 +1,4 @@
-use Rattle.std.proofs.Common.{◌≡◌, ◌+◌, ◌<◌, pos, ◌++◌, ◌∷◌, [], map, drop, slice_index_or, suc, ap, sym, ◌∙◌, arith, append_assoc}
+use Rattle.std.proofs.Common.{◌≡◌, ◌+◌, pos, ◌++◌, ◌∷◌, [], map, drop, slice_index_or, suc, ap, sym, ◌∙◌, arith, append_assoc}
 use Rattle.std.proofs.Math.Seq.{drop-cons}
 use Rattle.shared_expressions.proofs.Entries.{all_below_at}
 use Rattle.shared_expressions.proofs.keys.key_of.Goals as goal

@@ -3,12 +3,11 @@ use Rattle.std.proofs.lemmas.List.{append-nil}
 use Rattle.std.specs.Map.{lookup}
 use Rattle.std.specs.Ordering.{int_cmp, is_eq}
 use Rattle.std.specs.Cmp.Lexicographic.{slice_cmp}
-use Rattle.std.specs.BTreeMap.{UpdatesBy, get_by}
+use Rattle.std.specs.BTreeMap.{UpdatesBy}
 use Rattle.shared_expressions.specs.declared.store.Entry.{Entry}
-use Rattle.shared_expressions.specs.Keys.{key_of}
-use Rattle.shared_expressions.specs.Stored.{seen, trees, Stands, number_of, deepest}
+use Rattle.shared_expressions.specs.Stored.{seen, trees, Stands, deepest}
 use Rattle.shared_expressions.proofs.Entries.{deepest_few}
-use Rattle.shared_expressions.proofs.Lookup.{entry_of, stored, still_stored}
+use Rattle.shared_expressions.proofs.Lookup.{stored, still_stored}
 use Rattle.shared_expressions.proofs.store.add_new.Goals as goal
 
 first_is : (n l m : ℕ) → n ≡ l → l ≡ m → n ≡ m

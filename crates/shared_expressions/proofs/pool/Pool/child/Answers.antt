@@ -1,7 +1,7 @@
-use Rattle.std.proofs.Common.{◌≡◌, ◌≤◌, ◌<◌, Some, None, get_or, subst, sym, ap, ◌∙◌}
+use Rattle.std.proofs.Common.{◌≡◌, ◌≤◌, ◌<◌, Some, subst, sym, ap, ◌∙◌}
 use Rattle.shared_expressions.specs.declared.store.Entry.{Entry}
 use Rattle.shared_expressions.specs.Trees.{expr_at, tree_at, child_of}
-use Rattle.shared_expressions.specs.Stored.{entry_at, trees, parts}
+use Rattle.shared_expressions.specs.Stored.{entry_at}
 use Rattle.shared_expressions.proofs.Entries.{child_there, child_none}
 use Rattle.shared_expressions.proofs.pool.Pool.child.Goals as goal
 

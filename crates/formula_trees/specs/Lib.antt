@@ -1,0 +1,9 @@
+pub mod Expr
+pub mod TextNumbers
+pub mod SheetNumbers
+pub mod ExprCode
+pub mod References
+pub mod Mentions
+pub mod Functions
+pub mod Sound
+pub mod Shifted

@@ -1,0 +1,110 @@
+-- Which trees are formulas' at a cell.
+use Rattle.std.specs.Prelude.{◌≡◌, ℕ, suc, ◌+◌, ◌*◌, ◌≤◌, max, ℤ, pos, int_le, ◌&&◌, false, cond, nat_lt, IsTrue, IsSome, IsSomeAnd}
+use Rattle.cell_values.specs.declared.address.Addr.{Addr}
+use Rattle.cell_values.specs.Areas.{height, width}
+use Rattle.cell_values.specs.Numbers.{fits}
+use Rattle.formula_trees.specs.declared.tree.Reference.{Reference}
+use Rattle.formula_trees.specs.declared.tree.Op.{Op}
+use Rattle.formula_trees.specs.declared.tree.Fun.{Fun}
+use Rattle.formula_trees.specs.Expr.{Expr, Exprs, Number, Text, Truth, Ref, Range, RefError, Unary, Binary, Call, End, More}
+use Rattle.formula_trees.specs.References.{resolve, area_of}
+use Rattle.formula_trees.specs.Functions.{Kind, Plain, Place, Many, Exact, kind_of, enough, takes_more}
+
+-- a number that a formula may spell
+abbrev pub IsLiteral : ℤ → Type 0
+IsLiteral n = IsTrue (int_le (pos 0) n && fits n)
+
+-- both corners lie inside the sheet, on the same sheet, and the rectangle has at most 65,536 cells
+pub record IsRange (at : Addr) (r s : Reference) : Type 0 where
+  pub one_sheet : r.sheet ≡ s.sheet
+  pub small : IsSomeAnd (area_of at r s) (λ a. height a * width a ≤ 65536)
+
+-- a number of value 0, or FALSE
+abbrev pub IsExact : Expr → Type 0
+IsExact (Number n) = n ≡ pos 0
+IsExact (Truth b) = b ≡ false
+IsExact _ = ⊥
+
+-- a reference, a range or `#REF!`
+abbrev pub IsPlace : Addr → Expr → Type 0
+IsPlace at (Ref r) = IsSome (resolve at r)
+IsPlace at (Range r s) = IsRange at r s
+IsPlace at RefError = Unit {0}
+IsPlace at _ = ⊥
+
+-- a range, or what else the second one says
+abbrev pub RangeOr : Addr → Expr → Type 0 → Type 0
+RangeOr at (Range r s) P = IsRange at r s
+RangeOr at _ P = P
+
+abbrev pub OfKind : Addr → Kind → Expr → Type 0 → Type 0
+OfKind at Plain e P = P
+OfKind at Place e P = IsPlace at e
+OfKind at Many e P = RangeOr at e P
+OfKind at Exact e P = IsExact e
+
+-- calls have the arguments of the table, ranges stand only where they may, and all lies inside the sheet
+abbrev mutual
+  pub IsExpression : Addr → Expr → Type 0
+  IsExpression at (Number n) = IsLiteral n
+  IsExpression at (Text t) = Unit {0}
+  IsExpression at (Truth b) = Unit {0}
+  IsExpression at (Ref r) = IsSome (resolve at r)
+  IsExpression at (Range r s) = ⊥
+  IsExpression at RefError = Unit {0}
+  IsExpression at (Unary s a) = IsExpression at a
+  IsExpression at (Binary o a b) = IsExpression at a × IsExpression at b
+  IsExpression at (Call f args) = HasArguments at f 0 args
+
+  -- the arguments behind the first `n`
+  pub HasArguments : Addr → Fun → ℕ → Exprs → Type 0
+  HasArguments at f n End = IsTrue (enough f n)
+  HasArguments at f n (More a rest) = IsTrue (takes_more f n) × OfKind at (kind_of f n) a (IsExpression at a) × HasArguments at f (suc n) rest
+
+-- each literal, reference, range, `#REF!`, sign, operator and call is one node
+abbrev mutual
+  pub nodes : Expr → ℕ
+  nodes (Unary s a) = suc (nodes a)
+  nodes (Binary o a b) = suc (nodes a + nodes b)
+  nodes (Call f args) = suc (nodes_of args)
+  nodes _ = 1
+
+  pub nodes_of : Exprs → ℕ
+  nodes_of End = 0
+  nodes_of (More a rest) = nodes a + nodes_of rest
+
+-- the level of an operator: comparison, sum, term
+abbrev pub op_level : Op → ℕ
+op_level Op.Add = 2
+op_level Op.Sub = 2
+op_level Op.Mul = 3
+op_level Op.Div = 3
+op_level _ = 1
+
+-- the level of a tree's root: an operator's, 4 at a sign, 5 at all others
+abbrev pub level_of : Expr → ℕ
+level_of (Unary s a) = 4
+level_of (Binary o a b) = op_level o
+level_of _ = 5
+
+-- parentheses open one more, where the root's level is lower than asked for
+abbrev pub in_parentheses : ℕ → Expr → ℕ → ℕ
+in_parentheses least e inner = cond (nat_lt (level_of e) least) (suc inner) inner
+
+-- how many levels the printed formula opens at once: one at each `(` and each sign
+abbrev mutual
+  pub levels : Expr → ℕ
+  levels (Unary s a) = suc (in_parentheses 4 a (levels a))
+  levels (Binary o a b) = max (in_parentheses (op_level o) a (levels a)) (in_parentheses (suc (op_level o)) b (levels b))
+  levels (Call f args) = suc (levels_of args)
+  levels _ = 0
+
+  pub levels_of : Exprs → ℕ
+  levels_of End = 0
+  levels_of (More a rest) = max (levels a) (levels_of rest)
+
+-- the tree is a formula's at the cell
+pub record IsSound (at : Addr) (e : Expr) : Type 0 where
+  pub shape : IsExpression at e
+  pub small : nodes e ≤ 512
+  pub flat : levels e ≤ 32
