@@ -1,8 +1,18 @@
-//! Formulas: their trees, and how they are read and printed.
+//! Formulas: how they are read and printed.
 #![tactic(auto)]
 
-pub mod plain;
-pub mod tree;
+mod faults;
+mod kinds;
+pub mod laws;
+mod levels;
+pub mod parser;
+pub mod print;
+pub mod read;
+mod reader;
 
-pub use plain::read_plain;
-pub use tree::{Args, Fun, Op, Part, Reference, Sign, Tree};
+pub use parser::FormulaFault;
+pub use print::print_formula;
+pub use read::read_formula;
+
+#[cfg(test)]
+mod tests;

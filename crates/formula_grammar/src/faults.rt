@@ -1,0 +1,183 @@
+//! What is wrong with a token by itself, and what references name.
+
+ghost use Rattle.std.specs.Prelude.{◌≡◌, ◌≢◌, ◌≤◌, ◌<◌, IfSome, IfNone, nat_lt};
+ghost use Rattle.cell_values.specs.Addresses.{IsOnSheet};
+ghost use Rattle.formula_trees.specs.Sound.{op_level};
+ghost use Rattle.formula_trees.specs.Expr.{expr_of};
+ghost use Rattle.formula_grammar.specs.Fault.{is_inside, own_fault, named_fault, corner_fault, word_fault, literal_fault};
+ghost use Rattle.formula_grammar.specs.Rest.{misfit, token_level, sign_token};
+ghost use Rattle.formula_grammar.specs.Syntax.{cells_between, length_between, literal_meaning, part, reference_at};
+
+use crate::levels::op_level;
+use cell_values::Addr;
+use formula_tokens::{Coordinate, Corner, Literal, Token, Word};
+use formula_trees::{Op, Part, Reference, Sign, Tree};
+
+/// The most cells of a range.
+const MAX_CELLS: u64 = 65536;
+
+/// The number of the line that speaks of a token by itself, or 0.
+pub fn own_fault(token: Token) -> u8
+    ensures { result ≡ own_fault token }
+{
+    match token {
+        Token::BadCharacter => 1,
+        Token::Reference(word) | Token::SheetReference(word) => word_fault(word),
+        Token::Function(None) => 3,
+        Token::Literal(literal) => literal_fault(literal),
+        _ => 0,
+    }
+}
+
+/// 3 where the word is unknown.
+fn word_fault(word: Word) -> u8
+    ensures { result ≡ word_fault word }
+{
+    match word {
+        Word::Cell(_) => 0,
+        Word::Unknown => 3,
+    }
+}
+
+/// 4 where the number is too large.
+fn literal_fault(literal: Literal) -> u8
+    ensures { result ≡ literal_fault literal }
+{
+    match literal {
+        Literal::Number(n) => { if n >= 0 { 0 } else { 4 } }
+        Literal::HugeNumber => 4,
+        _ => 0,
+    }
+}
+
+/// The number of the line that speaks of what a token names, or 0.
+pub fn named_fault(token: Token) -> u8
+    ensures { result ≡ named_fault token }
+{
+    match token {
+        Token::Reference(word) | Token::SheetReference(word) => corner_fault(word),
+        Token::Prefix(None) => 9,
+        _ => 0,
+    }
+}
+
+/// 10 where the cell lies outside the sheet.
+fn corner_fault(word: Word) -> u8
+    ensures { result ≡ corner_fault word }
+{
+    match word {
+        Word::Cell(corner) => { if is_inside(corner) { 0 } else { 10 } }
+        Word::Unknown => 0,
+    }
+}
+
+/// The corner lies inside the sheet.
+fn is_inside(corner: Corner) -> bool
+    ensures { result ≡ is_inside corner }
+{
+    1 <= corner.col.number
+        && corner.col.number <= 256
+        && 1 <= corner.row.number
+        && corner.row.number <= 65536
+}
+
+/// The fault of a token that cannot stand where it is.
+pub fn misfit(token: Token) -> u8
+    ensures { result ≡ misfit token }
+{
+    match token {
+        Token::BadCharacter => 1,
+        _ => 2,
+    }
+}
+
+/// The operator of a level that a token is.
+pub fn operator_at(token: Token, level: u8) -> Option<Op>
+    requires { 0 < level }
+    ensures some { IfSome result (λ op. (token ≡ Token.Operator op) × (op_level op ≡ level)) }
+    ensures none { IfNone result (token_level token ≢ level) }
+{
+    let Token::Operator(op) = token else {
+        return None;
+    };
+    if op_level(op) == level {
+        Some(op)
+    } else {
+        None
+    }
+}
+
+/// The sign that a token is where an operand has to come.
+pub fn sign_at(token: Token) -> Option<Sign>
+    ensures { result ≡ sign_token token }
+{
+    match token {
+        Token::Operator(Op::Add) => Some(Sign::Plus),
+        Token::Operator(Op::Sub) => Some(Sign::Minus),
+        _ => None,
+    }
+}
+
+/// The tree of a literal. A number that is too large has none; it is never asked for.
+pub fn literal_tree(literal: Literal) -> Tree
+    ensures { expr_of result ≡ literal_meaning literal }
+{
+    match literal {
+        Literal::Number(n) => Tree::Number(n),
+        Literal::Text(text) => Tree::Text(text),
+        Literal::Truth(b) => Tree::Bool(b),
+        Literal::HugeNumber | Literal::RefError => Tree::RefError,
+    }
+}
+
+/// Whether the range between two corners has too many cells.
+pub fn is_too_large(first: Word, second: Word) -> bool
+    ensures { result ≡ nat_lt 65536 (cells_between first second) }
+{
+    let (Word::Cell(a), Word::Cell(b)) = (first, second) else {
+        return false;
+    };
+    let rows = length_between(a.row.number, b.row.number);
+    let cols = length_between(a.col.number, b.col.number);
+    rows.saturating_mul(cols) > MAX_CELLS
+}
+
+/// How many numbers there are from one to the other.
+fn length_between(a: u32, b: u32) -> u64
+    ensures { result ≡ length_between a b }
+{
+    u64::from(a.max(b)) - u64::from(a.min(b)) + 1
+}
+
+/// The reference that a word is, on a sheet or on the formula's own.
+pub fn reference_at(at: Addr, sheet: Option<u8>, word: Word) -> Reference
+    requires inside { corner_fault word ≡ 0 }
+    requires on_sheet { IsOnSheet at }
+    ensures { result ≡ reference_at at sheet word }
+{
+    match word {
+        Word::Cell(corner) => Reference {
+            sheet,
+            col: part(u32::from(at.col), corner.col),
+            row: part(at.row, corner.row),
+        },
+        Word::Unknown => Reference {
+            sheet,
+            col: Part::At(0),
+            row: Part::At(0),
+        },
+    }
+}
+
+/// A column or a row, as it is written in the formula of a cell.
+fn part(own: u32, coordinate: Coordinate) -> Part
+    requires own { own ≤ 65536 }
+    requires written { coordinate.number ≤ 65536 }
+    ensures { result ≡ part own coordinate }
+{
+    if coordinate.absolute {
+        Part::At(coordinate.number)
+    } else {
+        Part::By(coordinate.number as i32 - own as i32)
+    }
+}
