@@ -1,5 +1,5 @@
 -- The cells that a sheet without faults gives are in order, inside the sheet, with texts of its own.
-use Rattle.std.proofs.Common.{◌≡◌, ℕ, ℤ, suc, ◌+◌, ◌<◌, ◌≤◌, ◌⊎◌, inl, inr, List, [], ◌∷◌, ◌++◌, map, length, arith, Option, Some, None, Bool, true, false, not, nat_le, eqb, refl, sym, subst, ap, ◌∙◌, cond, fold, codes}
+use Rattle.std.proofs.Common.{◌≡◌, ℕ, ℤ, ◌+◌, ◌<◌, ◌≤◌, ◌⊎◌, inl, inr, List, [], ◌∷◌, ◌++◌, map, length, arith, Option, Some, None, Bool, true, false, not, nat_le, eqb, refl, sym, subst, ap, ◌∙◌, cond, fold, codes}
 use Rattle.std.proofs.lemmas.Bool.{and_parts, leb-true}
 use Rattle.std.proofs.lemmas.List.{length-append}
 use Rattle.std.specs.List.{enumerate_from, flat_map}
@@ -13,6 +13,7 @@ use Rattle.cell_values.specs.Texts.{Texts}
 use Rattle.cell_values.proofs.Numbering.{number_is_there}
 use Rattle.sheet_csv.specs.declared.reading.SheetFault.{SheetFault}
 use Rattle.sheet_csv.specs.Sheet.{Field, Sheet, row_fields, fields_from, sheet_fields, cell_at, is_empty, is_in_sheet, fault_of, or_first, room_after, first_fault, with_field, cells_of}
+use Rattle.puncalc_program.specs.Faults.{IsFormulaText}
 use Rattle.puncalc_program.specs.Ordered.{IsBeforeCells, CellsInOrder, CellsFit, AreSheetCells}
 
 -- by row, then column
@@ -94,40 +95,46 @@ raw_stays ts us (Raw.Text t) l h = omega arith
 raw_stays ts us (Raw.Bool b) l h = tt
 raw_stays ts us (Raw.Formula t) l h = tt
 
-fit_more : (ts us : Texts) (xs : List (Addr × Raw)) (x : Addr × Raw) → length ts ≤ length us → CellsFit ts xs → x.0.sheet ≡ 0 → IsOnSheet x.0 → IsRawOf us x.1 → CellsFit us (xs ++ x ∷ [])
-fit_more ts us [] x l h s o r = (s, o, r, tt)
-fit_more ts us (y ∷ ys) x l (a, b, c, hs) s o r = (a, b, raw_stays ts us y.1 l c, fit_more ts us ys x l hs s o r)
+fit_more : (ts us : Texts) (xs : List (Addr × Raw)) (x : Addr × Raw) → length ts ≤ length us → CellsFit ts xs → x.0.sheet ≡ 0 → IsOnSheet x.0 → IsRawOf us x.1 → IsFormulaText x.1 → CellsFit us (xs ++ x ∷ [])
+fit_more ts us [] x l h s o r f = (s, o, r, f, tt)
+fit_more ts us (y ∷ ys) x l (a, b, c, d, hs) s o r f = (a, b, raw_stays ts us y.1 l c, d, fit_more ts us ys x l hs s o r f)
+
+-- fewer texts serve as well
+pub fit_stays : (ts us : Texts) (xs : List (Addr × Raw)) → length ts ≤ length us → CellsFit ts xs → CellsFit us xs
+fit_stays ts us [] l h = tt
+fit_stays ts us (y ∷ ys) l (a, b, c, d, hs) = (a, b, raw_stays ts us y.1 l c, d, fit_stays ts us ys l hs)
 
 -- what a field reads has a text of the new texts, which are no fewer
 
 pub record Fresh (ts : Texts) (s : Texts × Raw) : Type 0 where
   pub more : length ts ≤ length s.0
   pub text : IsRawOf s.0 s.1
+  pub formula : IsFormulaText s.1
 
 text_fresh : (ts : Texts) (text : List ℕ) → Fresh ts (text_raw ts text)
 text_fresh ts text = go (number_of ts text) (number_is_there ts text)
   where
     go : (o : Option ℕ) → ((n : ℕ) → o ≡ Some n → n < length ts) → Fresh ts ((with_number ts text o).0, Raw.Text (with_number ts text o).1)
-    go (Some n) h = record { more = omega arith; text = h n refl }
-    go None h = let l : length (ts ++ text ∷ []) ≡ length ts + 1 = length-append ts (text ∷ []) in record { more = omega arith; text = omega arith }
+    go (Some n) h = record { more = omega arith; text = h n refl; formula = tt }
+    go None h = let l : length (ts ++ text ∷ []) ≡ length ts + 1 = length-append ts (text ∷ []) in record { more = omega arith; text = omega arith; formula = tt }
 
 plain_fresh : (ts : Texts) (bytes : List ℕ) (o : Option ℤ) → Fresh ts (plain_raw ts bytes o)
-plain_fresh ts bytes (Some n) = record { more = omega arith; text = tt }
+plain_fresh ts bytes (Some n) = record { more = omega arith; text = tt; formula = tt }
 plain_fresh ts bytes None = go (bytes_eq bytes (codes "TRUE")) (bytes_eq bytes (codes "FALSE"))
   where
     go : (a b : Bool) → Fresh ts (cond a (ts, Raw.Bool true) (cond b (ts, Raw.Bool false) (text_raw ts bytes)))
-    go true b = record { more = omega arith; text = tt }
-    go false true = record { more = omega arith; text = tt }
+    go true b = record { more = omega arith; text = tt; formula = tt }
+    go false true = record { more = omega arith; text = tt; formula = tt }
     go false false = text_fresh ts bytes
 
 raw_fresh : (ts : Texts) (bytes : List ℕ) → Fresh ts (raw_of ts bytes)
-raw_fresh ts [] = record { more = omega arith; text = tt }
-raw_fresh ts (c ∷ rest) = go (eqb c 61) (eqb c 39)
+raw_fresh ts [] = record { more = omega arith; text = tt; formula = tt }
+raw_fresh ts (c ∷ rest) = go (eqb c 61) (eqb c 39) refl
   where
-    go : (a b : Bool) → Fresh ts (cond a (ts, Raw.Formula (c ∷ rest)) (cond b (text_raw ts rest) (plain_raw ts (c ∷ rest) (number_of_field (c ∷ rest)))))
-    go true b = record { more = omega arith; text = tt }
-    go false true = text_fresh ts rest
-    go false false = plain_fresh ts (c ∷ rest) (number_of_field (c ∷ rest))
+    go : (a b : Bool) → eqb c 61 ≡ a → Fresh ts (cond a (ts, Raw.Formula (c ∷ rest)) (cond b (text_raw ts rest) (plain_raw ts (c ∷ rest) (number_of_field (c ∷ rest)))))
+    go true b e = record { more = omega arith; text = tt; formula = e }
+    go false true e = text_fresh ts rest
+    go false false e = plain_fresh ts (c ∷ rest) (number_of_field (c ∷ rest))
 
 -- a field without a fault is empty, or lies in the sheet
 
@@ -160,7 +167,7 @@ good_more r c f s k rf cf rt ct h =
     record {
       before = before_more r c f.row f.col s.1 (raw_of s.0 f.bytes).1 k h.before;
       in_order = order_more r c f.row f.col s.1 (raw_of s.0 f.bytes).1 k h.before h.in_order;
-      fit = fit_more s.0 (raw_of s.0 f.bytes).0 s.1 (cell_at 0 f, (raw_of s.0 f.bytes).1) fresh.more h.fit refl (record { row_from = rf; row_to = rt; col_from = cf; col_to = ct }) fresh.text;
+      fit = fit_more s.0 (raw_of s.0 f.bytes).0 s.1 (cell_at 0 f, (raw_of s.0 f.bytes).1) fresh.more h.fit refl (record { row_from = rf; row_to = rt; col_from = cf; col_to = ct }) fresh.text fresh.formula;
     }
 
 good_fields : (fs : List Field) (room r c : ℕ) (s : Sheet) → Chain r c fs → first_fault room fs ≡ None → Good r c s → AreSheetCells (fold (with_field 0) s fs).0 (fold (with_field 0) s fs).1

@@ -4,3 +4,4 @@ pub mod Loads
 pub mod Filling
 pub mod Shows
 pub mod Written
+pub mod Formulas

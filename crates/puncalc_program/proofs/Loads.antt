@@ -1,43 +1,42 @@
 -- A book that is loaded cell by cell.
-use Rattle.std.proofs.Common.{◌≡◌, ◌≢◌, ℕ, ◌+◌, ◌<◌, ◌≤◌, ◌⊎◌, inl, inr, List, [], ◌∷◌, ◌++◌, max, arith, Option, Some, None, Result, Ok, Err, Bool, true, false, refl, sym, subst, ap, ◌∙◌, cond, eqb, fold, IfSome}
+use Rattle.std.proofs.Common.{◌≡◌, ◌≢◌, ℕ, ◌<◌, ◌≤◌, ◌⊎◌, inl, inr, List, [], ◌∷◌, ◌++◌, length, take, min, max, arith, Option, Some, Ok, refl, sym, subst, ap, ◌∙◌, cond, eqb, fold}
 use Rattle.cell_values.specs.declared.address.Addr.{Addr}
 use Rattle.cell_values.specs.declared.fields.Raw.{Raw}
-use Rattle.cell_values.specs.Addresses.{IsBefore, IsOnSheet}
-use Rattle.cell_values.specs.Fields.{IsRawOf}
+use Rattle.cell_values.specs.Addresses.{IsOnSheet}
 use Rattle.cell_values.specs.Texts.{Texts}
-use Rattle.formula_grammar.specs.Expr.{Expr, Exprs, Number, Text, Truth, Ref, Range, RefError, Unary, Binary, Call, End, More}
-use Rattle.formula_grammar.specs.Plain.{HasNoTexts, HaveNoTexts}
+use Rattle.cell_values.specs.Interned.{KeepsTexts}
+use Rattle.std.proofs.lemmas.List.{length-take}
+use Rattle.std.specs.Option.{option_map}
+use Rattle.formula_trees.specs.Expr.{Expr, Exprs, Number, Text, Truth, Ref, Range, RefError, Unary, Binary, Call, End, More}
+use Rattle.formula_grammar.specs.Reading.{Reading, IsReading}
 use Rattle.sheet_csv.specs.declared.reading.SheetFault.{SheetFault}
-use Rattle.sheet_csv.specs.Sheet.{Sheet, sheet_fields, first_fault, cells_of}
+use Rattle.sheet_csv.specs.Sheet.{sheet_fields, first_fault, cells_of}
 use Rattle.demand_spec.specs.Book.{Book, Content}
-use Rattle.demand_spec.specs.TextNumbers.{TextsBelow, AllTextsBelow}
+use Rattle.formula_trees.specs.TextNumbers.{TextsBelow, AllTextsBelow}
 use Rattle.demand_spec.specs.declared.Cell.{Cell}
 use Rattle.demand_spec.specs.Listed.{content_of, IsContentOf, AreCellsOf}
-use Rattle.puncalc_program.specs.declared.load.LoadFault.{LoadFault}
-use Rattle.puncalc_program.specs.Loading.{loaded, content_read, contents_read, before_cells, if_accepted, unless_refused, book_of_sheet, refusal_of}
-use Rattle.puncalc_program.specs.declared.refusals.FieldFault.{FieldFault}
+use Rattle.puncalc_program.specs.Loading.{the_names, content_read, loaded, unless_refused, book_of_sheet}
 use Rattle.puncalc_program.specs.declared.refusals.Refusal.{Refusal}
-use Rattle.puncalc_program.specs.Refusals.{refusal_status}
-use Rattle.puncalc_program.specs.Faults.{IsLoadFault, load_fault_of}
+use Rattle.puncalc_program.specs.Refusals.{refusal_status, IsInSheet}
+use Rattle.puncalc_program.specs.Faults.{AddsField, appended, IsLoadFault, IsOfSheet, load_fault_of}
 use Rattle.puncalc_program.specs.Sheets.{last_row, last_column}
 use Rattle.puncalc_program.specs.Recalculated.{IsExtent, IsLoaded}
 
--- a formula without texts has text numbers of any texts
 mutual
-  pub no_texts_below : (meant : ℕ → Type 0) (e : Expr) → HasNoTexts e → TextsBelow meant e
-  no_texts_below meant (Number n) h = tt
-  no_texts_below meant (Text t) h = absurd h
-  no_texts_below meant (Truth b) h = tt
-  no_texts_below meant (Ref r) h = tt
-  no_texts_below meant (Range r s) h = tt
-  no_texts_below meant RefError h = tt
-  no_texts_below meant (Unary s a) h = no_texts_below meant a h
-  no_texts_below meant (Binary o a b) (h, k) = (no_texts_below meant a h, no_texts_below meant b k)
-  no_texts_below meant (Call f args) h = none_have_texts meant args h
+  formula_stays : (m n : ℕ) (e : Expr) → m ≤ n → TextsBelow (λ i. i < m) e → TextsBelow (λ i. i < n) e
+  formula_stays m n (Number k) l h = tt
+  formula_stays m n (Text t) l h = omega arith
+  formula_stays m n (Truth b) l h = tt
+  formula_stays m n (Ref r) l h = tt
+  formula_stays m n (Range r s) l h = tt
+  formula_stays m n RefError l h = tt
+  formula_stays m n (Unary s a) l h = formula_stays m n a l h
+  formula_stays m n (Binary o a b) l (h, k) = (formula_stays m n a l h, formula_stays m n b l k)
+  formula_stays m n (Call f args) l h = arguments_stay m n args l h
 
-  pub none_have_texts : (meant : ℕ → Type 0) (args : Exprs) → HaveNoTexts args → AllTextsBelow meant args
-  none_have_texts meant End h = tt
-  none_have_texts meant (More a rest) (h, k) = (no_texts_below meant a h, none_have_texts meant rest k)
+  arguments_stay : (m n : ℕ) (args : Exprs) → m ≤ n → AllTextsBelow (λ i. i < m) args → AllTextsBelow (λ i. i < n) args
+  arguments_stay m n End l h = tt
+  arguments_stay m n (More a rest) l (h, k) = (formula_stays m n a l h, arguments_stay m n rest l k)
 
 fold_snoc : {A B : Type 0} (f : B → A → B) (z : B) (xs : List A) (x : A) → fold f z (xs ++ x ∷ []) ≡ f (fold f z xs) x
 fold_snoc f z [] x = refl
@@ -70,51 +69,62 @@ loaded_push b rows columns rows' columns' at c cells h first on t e p q =
         subst (λ (k : ℕ). IsLoaded (record { cells = cs'; texts = ts }) m' k) q (subst (λ (k : ℕ). IsLoaded (record { cells = cs'; texts = ts }) k n) p (subst (λ (xs : List (Addr × Content)). IsLoaded (record { cells = xs; texts = ts }) m n) e h))
 
 -- the fault of a sheet is its refusal
-pub refused_sheet : (fault : SheetFault) (bytes : List ℕ) → (fault ≡ SheetFault.OutOfMemory) ⊎ (first_fault 200000 (sheet_fields bytes) ≡ Some fault) → IsLoadFault (load_fault_of fault) (loaded bytes)
+pub refused_sheet : (fault : SheetFault) (bytes : List ℕ) → (fault ≡ SheetFault.OutOfMemory) ⊎ (first_fault 200000 (sheet_fields bytes) ≡ Some fault) →
+    (read : Reading) → IsLoadFault (load_fault_of fault) (loaded read bytes)
 unfolding loaded
-refused_sheet SheetFault.OutOfMemory bytes h = tt
-refused_sheet (SheetFault.NotUtf8 row col) bytes (inl h) = cc
-refused_sheet (SheetFault.OutOfSheet row col) bytes (inl h) = cc
-refused_sheet (SheetFault.TooManyCells row col) bytes (inl h) = cc
-refused_sheet (SheetFault.NotUtf8 row col) bytes (inr h) = ap (λ f. unless_refused f (book_of_sheet (cells_of 0 [] (sheet_fields bytes)))) h
-refused_sheet (SheetFault.OutOfSheet row col) bytes (inr h) = ap (λ f. unless_refused f (book_of_sheet (cells_of 0 [] (sheet_fields bytes)))) h
-refused_sheet (SheetFault.TooManyCells row col) bytes (inr h) = ap (λ f. unless_refused f (book_of_sheet (cells_of 0 [] (sheet_fields bytes)))) h
+refused_sheet SheetFault.OutOfMemory bytes h read = tt
+refused_sheet (SheetFault.NotUtf8 row col) bytes (inl h) read = cc
+refused_sheet (SheetFault.OutOfSheet row col) bytes (inl h) read = cc
+refused_sheet (SheetFault.TooManyCells row col) bytes (inl h) read = cc
+refused_sheet (SheetFault.NotUtf8 row col) bytes (inr h) read = ap (λ f. unless_refused f (book_of_sheet read (cells_of 0 [] (sheet_fields bytes)))) h
+refused_sheet (SheetFault.OutOfSheet row col) bytes (inr h) read = ap (λ f. unless_refused f (book_of_sheet read (cells_of 0 [] (sheet_fields bytes)))) h
+refused_sheet (SheetFault.TooManyCells row col) bytes (inr h) read = ap (λ f. unless_refused f (book_of_sheet read (cells_of 0 [] (sheet_fields bytes)))) h
 
--- what was read of a field has texts where the field has
-pub content_fits : (ts : Texts) (raw : Raw) (o : Option Cell) (cell : Cell) → o ≡ Some cell → IfSome o (λ c. (us : Texts) → IsRawOf us raw → IsContentOf us (content_of c)) → IsRawOf ts raw → IsContentOf ts (content_of cell)
-content_fits ts raw o cell e h k = (subst (λ (x : Option Cell). IfSome x (λ c. (us : Texts) → IsRawOf us raw → IsContentOf us (content_of c))) e h) ts k
+-- texts that are there stay
+content_stays : (ts us : Texts) (c : Content) → length ts ≤ length us → IsContentOf ts c → IsContentOf us c
+content_stays ts us (Content.Number n) l h = tt
+content_stays ts us (Content.Text t) l h = omega arith
+content_stays ts us (Content.Truth b) l h = tt
+content_stays ts us (Content.Formula e) l h = formula_stays (length ts) (length us) e l h
 
--- a sheet is not refused as words
+cells_stay : (ts us : Texts) (cs : List (Addr × Content)) → length ts ≤ length us → AreCellsOf ts cs → AreCellsOf us cs
+cells_stay ts us [] l h = tt
+cells_stay ts us (c ∷ rest) l (h, hs) = (content_stays ts us c.1 l h, cells_stay ts us rest l hs)
 
-cells_no_words : (cells : List (Addr × Raw)) → contents_read cells ≡ Err Refusal.Words → ⊥
-cells_no_words [] h = cc
-cells_no_words (c ∷ rest) h = go (content_read c.0 c.1) (contents_read rest) (cells_no_words rest) h
-  where
-    go : (o : Option Content) (r : Result (List (Addr × Content)) Refusal) → (r ≡ Err Refusal.Words → ⊥) → before_cells c.0 o r ≡ Err Refusal.Words → ⊥
-    go None r no_words h = cc
-    go (Some x) (Ok cs) no_words h = cc
-    go (Some x) (Err Refusal.Words) no_words h = no_words refl
-    go (Some x) (Err Refusal.TooLong) no_words h = cc
-    go (Some x) (Err (Refusal.Field row col fault)) no_words h = cc
+-- more texts
+pub loaded_more : (cells : List (Addr × Content)) (ts us : Texts) (rows columns : ℕ) → length ts ≤ length us → IsLoaded (record { cells = cells; texts = ts }) rows columns → IsLoaded (record { cells = cells; texts = us }) rows columns
+loaded_more cells ts us rows columns l h = record { texts = cells_stay ts us cells l h.texts; extent = h.extent }
 
-pub sheet_no_words : (bytes : List ℕ) → loaded bytes ≡ Err Refusal.Words → ⊥
-unfolding loaded
-sheet_no_words bytes h = go (first_fault 200000 (sheet_fields bytes)) (cells_of 0 [] (sheet_fields bytes)) h
-  where
-    of_cells : (ts : Texts) (r : Result (List (Addr × Content)) Refusal) → (r ≡ Err Refusal.Words → ⊥) → if_accepted {A = List (Addr × Content)} {B = Book} (λ cs. record { cells = cs; texts = ts }) r ≡ Err Refusal.Words → ⊥
-    of_cells ts (Ok cs) no_words h = cc
-    of_cells ts (Err Refusal.Words) no_words h = no_words refl
-    of_cells ts (Err Refusal.TooLong) no_words h = cc
-    of_cells ts (Err (Refusal.Field row col fault)) no_words h = cc
+-- a refusal of a sheet has its own status
+pub not_words : (why : Refusal) (status : ℕ) → IsOfSheet why → status ≡ refusal_status why → status ≢ 2
+not_words Refusal.Words status h s = absurd h
+not_words Refusal.TooLong status h s = λ e. omega arith
+not_words (Refusal.Field row col fault) status h s = λ e. omega arith
+not_words (Refusal.Formula at place number) status h s = λ e. omega arith
 
-    go : (o : Option SheetFault) (s : Sheet) → unless_refused o (book_of_sheet s) ≡ Err Refusal.Words → ⊥
-    go (Some (SheetFault.NotUtf8 row col)) s h = cc
-    go (Some (SheetFault.OutOfSheet row col)) s h = cc
-    go (Some (SheetFault.TooManyCells row col)) s h = cc
-    go (Some SheetFault.OutOfMemory) s h = cc
-    go None (ts, cells) h = of_cells ts (contents_read cells) (cells_no_words cells) h
+pub in_sheet : (why : Refusal) → IsOfSheet why → IsInSheet why
+in_sheet Refusal.Words h = absurd h
+in_sheet Refusal.TooLong h = tt
+in_sheet (Refusal.Field row col fault) h = tt
+in_sheet (Refusal.Formula at place number) h = h
 
-pub not_words : (bytes : List ℕ) (why : Refusal) (status : ℕ) → loaded bytes ≡ Err why → status ≡ refusal_status why → status ≢ 2
-not_words bytes Refusal.Words status e s = absurd (sheet_no_words bytes e)
-not_words bytes Refusal.TooLong status e s = λ h. omega arith
-not_words bytes (Refusal.Field row col fault) status e s = λ h. omega arith
+-- texts that begin with the old ones are no fewer
+pub kept_length : (ts us : Texts) → KeepsTexts ts us → length ts ≤ length us
+kept_length ts us h =
+    let e : length (take (length ts) us) ≡ length ts = ap length h in
+    let m : length (take (length ts) us) ≡ min (length ts) (length us) = length-take (length ts) us in
+    omega arith
+
+pub loaded_kept : (cells : List (Addr × Content)) (ts us : Texts) (rows columns : ℕ) → KeepsTexts ts us → IsLoaded (record { cells = cells; texts = ts }) rows columns → IsLoaded (record { cells = cells; texts = us }) rows columns
+loaded_kept cells ts us rows columns h l = loaded_more cells ts us rows columns (kept_length ts us h) l
+
+-- what is told of a field that has a content
+pub adds_field : (old new : Book) (at : Addr) (raw : Raw) (o : Option Cell) (content : Option Content) →
+    ((read : Reading) → IsReading the_names read → content_read read old.texts at raw ≡ Ok (new.texts, option_map content_of o)) →
+    option_map content_of o ≡ content → new.cells ≡ appended old.cells at content → KeepsTexts old.texts new.texts → AddsField old new at raw
+adds_field old new at raw o content exact e cells kept = record {
+  content = content;
+  is_read = λ read right. exact read right ∙ ap (λ c. Ok (new.texts, c)) e;
+  cells = cells;
+  more = kept_length old.texts new.texts kept;
+}

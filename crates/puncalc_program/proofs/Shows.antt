@@ -2,7 +2,7 @@
 use Rattle.std.proofs.Common.{◌≡◌, ℕ, ◌⊎◌, inl, inr, List, [], ◌∷◌, Option, Some, None, Bool, true, false, cond, refl, sym, subst, ap, ◌∙◌, eqb, ◌&&◌, nat_cmp, is_eq, Ordering, Less, Equal, Greater, length, drop, drop-cons, get_or, ◌<◌, suc, arith}
 use Rattle.std.specs.Ordering.{ordering_then}
 use Rattle.std.specs.Map.{lookup}
-use Rattle.std.specs.BTreeMap.{BTreeMap, Updates, get}
+use Rattle.std.specs.BTreeMap.{BTreeMap, Updates}
 use Rattle.cell_values.specs.contracts.address.AddrOrd.TheImpl as addr_ord
 use Rattle.cell_values.specs.declared.address.Addr.{Addr}
 use Rattle.cell_values.specs.declared.values.Shown.{Shown}
@@ -10,8 +10,8 @@ use Rattle.cell_values.specs.declared.values.Value.{Value}
 use Rattle.cell_values.specs.Addresses.{same_addr}
 use Rattle.cell_values.specs.ShownText.{IsShownOf, IsValueOf}
 use Rattle.cell_values.specs.Texts.{Texts}
-use Rattle.formula_grammar.specs.Expr.{Expr}
-use Rattle.demand_spec.specs.Book.{Book, Content, own, own_of, shown, formulas, formulas_in, with_formula, formula_at, formula_of, cell_in, shown_from, finished, returns}
+use Rattle.formula_trees.specs.Expr.{Expr}
+use Rattle.demand_spec.specs.Book.{Book, Content, own, own_of, shown, formulas, formula_at, cell_in, shown_from, finished, returns}
 use Rattle.demand_spec.specs.Laws.{In}
 use Rattle.demand_spec.specs.Listed.{all_shown, shown_over, AreCellsOf, IsContentOf}
 use Rattle.builtin_functions.specs.Tables.{IsValueOf as IsOperandOf}

@@ -2,6 +2,7 @@
 use Rattle.std.specs.Prelude.{ℕ, Bool, false, cond, List, [], ◌∷◌, Result, Ok, Err, codes, nat_lt, length}
 use Rattle.std.specs.Str.{bytes_eq}
 use Rattle.demand_spec.specs.Book.{Book}
+use Rattle.formula_grammar.specs.Reading.{Reading}
 use Rattle.puncalc_program.specs.declared.refusals.Refusal.{Refusal}
 use Rattle.puncalc_program.specs.Refusals.{refusal_line, refusal_status}
 use Rattle.puncalc_program.specs.Loading.{loaded}
@@ -25,10 +26,10 @@ abbrev pub are_accepted : List (List ℕ) → Bool
 are_accepted (word ∷ []) = bytes_eq word (codes "show")
 are_accepted _ = false
 
--- what `show` makes of its input; all sheets together have at most 64 MiB
-abbrev pub sheet_output : List ℕ → Output
-sheet_output input = cond (nat_lt 67108864 (length input)) (refusal Refusal.TooLong) (shown_or_refused (loaded input))
+-- what `show` makes of its input, where formulas read as `read` says; all sheets together have at most 64 MiB
+abbrev pub sheet_output : Reading → List ℕ → Output
+sheet_output read input = cond (nat_lt 67108864 (length input)) (refusal Refusal.TooLong) (shown_or_refused (loaded read input))
 
 -- what the program makes of its words and its input
-abbrev pub output : List (List ℕ) → List ℕ → Output
-output words input = cond (are_accepted words) (sheet_output input) (refusal Refusal.Words)
+abbrev pub output : Reading → List (List ℕ) → List ℕ → Output
+output read words input = cond (are_accepted words) (sheet_output read input) (refusal Refusal.Words)

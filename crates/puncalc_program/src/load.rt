@@ -1,16 +1,18 @@
 //! A sheet's bytes as a book.
 
-ghost use Rattle.std.specs.Prelude.{◌≡◌, ◌∷◌, [], ◌++◌, Some, None, Ok, Err, IfOk, IfSome, OnOk, OnErr, MatchResult, List, ℕ, option_map};
+ghost use Rattle.std.specs.Prelude.{◌≡◌, [], Ok, Err, IfOk, IfErr, IfSome, OnOk, MatchResult, option_map};
 ghost use Rattle.cell_values.specs.Addresses.{IsOnSheet};
 ghost use Rattle.cell_values.specs.Fields.{IsRawOf};
+ghost use Rattle.cell_values.specs.Interned.{KeepsTexts};
 ghost use Rattle.demand_spec.specs.Listed.{content_of, IsAfterAll, IsContentOf, IsSoundAt};
-ghost use Rattle.puncalc_program.specs.Loading.{content_read, loaded, refusal_of};
-ghost use Rattle.puncalc_program.specs.Faults.{IsLoadFault, AddsCell, IsNotEvaluated};
+ghost use Rattle.formula_grammar.specs.Reading.{Reading, IsReading};
+ghost use Rattle.puncalc_program.specs.Loading.{the_names, content_read, loaded};
+ghost use Rattle.puncalc_program.specs.Faults.{AddsField, IsFaultInSheet, IsFaultOfField, IsFieldFault, IsFormulaText, IsLoadFault};
 
 use crate::refusals::{FieldFault, Refusal};
-use cell_values::{Addr, Raw, Texts};
+use cell_values::{Addr, Raw, SheetNames, Texts};
 use demand_spec::{Cell, PlainBook};
-use formula_grammar::read_plain;
+use formula_grammar::{FormulaFault, read_formula};
 use sheet_csv::{SheetFault, read_sheet};
 use std::alloc::{AllocError, Global};
 use std::marker::Model;
@@ -66,7 +68,7 @@ impl Model for Loaded {
     ghost Value = { Book };
 
     ghost use Rattle.std.specs.Coded.{codes};
-    ghost use Rattle.formula_grammar.specs.ExprCode.{expr_code};
+    ghost use Rattle.formula_trees.specs.ExprCode.{expr_code};
 
     ghost coded = { Prim.hlevel (codes, expr_code) };
 
@@ -79,8 +81,10 @@ impl Model for Loaded {
 
 /// The book of a sheet's bytes.
 #[tactic(auto, using(crate::proofs::Loads::refused_sheet))]
-pub(crate) fn load(alloc: Global, bytes: &[u8]) -> Result<Loaded, LoadFault>
-    ensures { MatchResult result (λ book. loaded bytes.now ≡ Ok book) (λ fault. IsLoadFault fault (loaded bytes.now)) }
+pub(crate) fn load(alloc: Global, bytes: &[u8], sheets: &SheetNames) -> Result<Loaded, LoadFault>
+    requires { sheets.now ≡ the_names }
+    ensures loaded { (read : Reading) → IsReading the_names read → MatchResult result (λ book. loaded read bytes.now ≡ Ok book) (λ fault. IsLoadFault fault (loaded read bytes.now)) }
+    ensures place { IfErr result IsFaultInSheet }
 {
     let mut texts = Texts::new(alloc);
     let cells = read_sheet(alloc, bytes, 0, MAX_CELLS, &mut texts)?;
@@ -91,52 +95,69 @@ pub(crate) fn load(alloc: Global, bytes: &[u8]) -> Result<Loaded, LoadFault>
         columns: 0,
     };
     for (at, raw) in &cells {
-        sheet.add(alloc, *at, raw)?;
+        sheet.add(alloc, *at, raw, sheets)?;
     }
     Ok(sheet)
 }
 
 impl Loaded {
-    /// Adds a cell behind all others.
-    #[tactic(auto, using(crate::proofs::Loads::loaded_push))]
-    fn add(&mut self, alloc: Global, at: Addr, raw: &Raw) -> Result<(), LoadFault>
+    /// Adds what a field makes of its cell behind all others.
+    fn add(
+        &mut self,
+        alloc: Global,
+        at: Addr,
+        raw: &Raw,
+        sheets: &SheetNames,
+    ) -> Result<(), LoadFault>
+        requires names { sheets.now ≡ the_names }
         requires after { IsAfterAll at self.old.cells }
         requires first_sheet { at.sheet ≡ 0 }
         requires on_sheet { IsOnSheet at }
         requires text { IsRawOf self.old.texts raw.now }
-        ensures ok { OnOk result (AddsCell self.old self.new at (content_read at raw.now)) }
-        ensures fault { MatchResult result (λ _. Unit {0}) (λ fault. IsNotEvaluated fault at (content_read at raw.now)) }
+        requires formula { IsFormulaText raw.now }
+        ensures ok { OnOk result (AddsField self.old self.new at raw.now) }
+        ensures fault { IfErr result (IsFieldFault self.old at raw.now) }
+        ensures place { IfErr result IsFaultInSheet }
     {
-        let Some(cell) = read_cell(alloc, at, raw)? else {
-            return Err(LoadFault::Refused(Refusal::Field(
-                at.row as usize,
-                usize::from(at.col),
-                FieldFault::NotEvaluated,
-            )));
-        };
-        self.book.push(at, cell)?;
-        self.rows = self.rows.max(at.row);
-        self.columns = self.columns.max(at.col);
+        if let Some(cell) = read_cell(alloc, at, raw, sheets, &mut self.texts)? {
+            self.book.push(at, cell)?;
+            self.rows = self.rows.max(at.row);
+            self.columns = self.columns.max(at.col);
+        }
         Ok(())
     }
 }
 
-/// What a field makes of its cell. None where its formula is of a kind that is not evaluated yet.
-#[tactic(auto, using(crate::proofs::Loads::no_texts_below))]
-fn read_cell(alloc: Global, at: Addr, raw: &Raw) -> Result<Option<Cell>, AllocError>
-    requires { IsOnSheet at }
-    ensures exact { IfOk result (λ cell. option_map content_of cell ≡ content_read at raw.now) }
+/// What a field makes of its cell.
+fn read_cell(
+    alloc: Global,
+    at: Addr,
+    raw: &Raw,
+    sheets: &SheetNames,
+    texts: &mut Texts,
+) -> Result<Option<Cell>, LoadFault>
+    requires names { sheets.now ≡ the_names }
+    requires on_sheet { IsOnSheet at }
+    requires text { IsRawOf texts.old raw.now }
+    requires formula { IsFormulaText raw.now }
+    ensures exact { IfOk result (λ cell. (read : Reading) → IsReading the_names read → content_read read texts.old at raw.now ≡ Ok (texts.new, option_map content_of cell)) }
+    ensures fault { IfErr result (IsFaultOfField texts.old at raw.now) }
+    ensures place { IfErr result IsFaultInSheet }
     ensures sound { IfOk result (λ cell. IfSome cell (λ c. IsSoundAt at (content_of c))) }
-    ensures texts { IfOk result (λ cell. IfSome cell (λ c. (ts : List (List ℕ)) → IsRawOf ts raw.now → IsContentOf ts (content_of c))) }
+    ensures there { IfOk result (λ cell. IfSome cell (λ c. IsContentOf texts.new (content_of c))) }
+    ensures kept { KeepsTexts texts.old texts.new }
 {
     match raw {
         Raw::Nothing => Ok(None),
         Raw::Number(n) => Ok(Some(Cell::Number(*n))),
         Raw::Text(t) => Ok(Some(Cell::Text(*t))),
         Raw::Bool(b) => Ok(Some(Cell::Bool(*b))),
-        Raw::Formula(text) => match read_plain(alloc, text.as_str(), at)? {
-            Some(tree) => Ok(Some(Cell::Formula(tree))),
-            None => Ok(None),
+        Raw::Formula(text) => match read_formula(alloc, text.as_str(), at, sheets, texts) {
+            Ok(tree) => Ok(Some(Cell::Formula(tree))),
+            Err(FormulaFault::Bad { place, number }) => {
+                Err(LoadFault::Refused(Refusal::Formula(at, place, number)))
+            }
+            Err(FormulaFault::OutOfMemory) => Err(LoadFault::OutOfMemory),
         },
     }
 }

@@ -1,9 +1,10 @@
 //! Why the program refuses its words or its input.
 
 ghost use Rattle.std.specs.Prelude.{◌≡◌};
-ghost use Rattle.puncalc_program.specs.Refusals.{fault_name};
+ghost use Rattle.puncalc_program.specs.Refusals.{fault_name, IsInSheet};
 
-use std::fmt;
+use cell_values::Addr;
+use std::alloc::{AllocError, Global};
 
 /// Why a field of the sheet is refused.
 #[derive(Clone, Copy, Debug, PartialEq, Eq)]
@@ -14,8 +15,6 @@ pub enum FieldFault {
     OutOfSheet,
     /// S3: it is not empty, and too many such fields stand before it.
     TooManyCells,
-    /// S9: its formula is of a kind that the program does not evaluate yet.
-    NotEvaluated,
 }
 
 /// Why the words or the input are refused.
@@ -27,6 +26,9 @@ pub enum Refusal {
     TooLong,
     /// A field of the sheet: its row and column, counted from 1, and its fault.
     Field(usize, usize, FieldFault),
+    /// The formula of a cell: the place of its fault, counted in bytes from 0 at the `=`, and the fault's
+    /// number, 1 to 10.
+    Formula(Addr, u32, u8),
 }
 
 impl FieldFault {
@@ -37,7 +39,6 @@ impl FieldFault {
             FieldFault::NotUtf8 => "S1",
             FieldFault::OutOfSheet => "S2",
             FieldFault::TooManyCells => "S3",
-            FieldFault::NotEvaluated => "S9",
         }
     }
 }
@@ -56,19 +57,59 @@ impl Refusal {
     }
 }
 
-impl fmt::Display for Refusal {
-    ghost use Rattle.std.specs.Prelude.{Some};
-    ghost use Rattle.puncalc_program.specs.Refusals.{refusal_text};
+impl Refusal {
+    ghost use Rattle.std.specs.Prelude.{IfOk, string_bytes};
+    ghost use Rattle.puncalc_program.specs.Refusals.{refusal_line, refusal_text};
 
-    ghost output = { λ r. Some (refusal_text r) };
+    /// The line that tells of the refusal.
+    pub(crate) fn line(&self, alloc: Global) -> Result<String, AllocError>
+        requires { IsInSheet self.now }
+        ensures { IfOk result (λ line. string_bytes line ≡ refusal_line self.now) }
+    {
+        let mut line = self.text(alloc)?;
+        line.push_str("\n")?;
+        Ok(line)
+    }
 
-    fn fmt<W: fmt::Write>(&self, f: &mut fmt::Formatter<W>) -> fmt::Result {
+    fn text(&self, alloc: Global) -> Result<String, AllocError>
+        requires { IsInSheet self.now }
+        ensures { IfOk result (λ text. string_bytes text ≡ refusal_text self.now) }
+    {
         match self {
-            Refusal::Words => write!(f, "refused words"),
-            Refusal::TooLong => write!(f, "refused Sheet1: S4"),
-            Refusal::Field(row, col, fault) => {
-                write!(f, "refused Sheet1 row {row} column {col}: {}", fault.name())
-            }
+            Refusal::Words => String::from_str(alloc, "refused words"),
+            Refusal::TooLong => String::from_str(alloc, "refused Sheet1: S4"),
+            Refusal::Field(row, col, fault) => field_text(alloc, *row, *col, *fault),
+            Refusal::Formula(cell, place, number) => formula_text(alloc, *cell, *place, *number),
         }
     }
+}
+
+ghost use Rattle.std.specs.Prelude.{IfOk, string_bytes};
+ghost use Rattle.cell_values.specs.Addresses.{IsOnSheet};
+ghost use Rattle.puncalc_program.specs.Refusals.{refusal_text};
+ghost use Rattle.puncalc_program.specs.declared.refusals.Refusal.{Refusal};
+
+fn field_text(
+    alloc: Global,
+    row: usize,
+    col: usize,
+    fault: FieldFault,
+) -> Result<String, AllocError>
+    ensures { IfOk result (λ text. string_bytes text ≡ refusal_text (Refusal.Field row col fault)) }
+{
+    let mut text = String::from_str(alloc, "refused Sheet1")?;
+    write!(text, " row {row} column {col}: ")?;
+    text.push_str(fault.name())?;
+    Ok(text)
+}
+
+fn formula_text(alloc: Global, cell: Addr, place: u32, number: u8) -> Result<String, AllocError>
+    requires { IsOnSheet cell }
+    ensures { IfOk result (λ text. string_bytes text ≡ refusal_text (Refusal.Formula cell place number)) }
+{
+    let mut text = String::from_str(alloc, "refused Sheet1!")?;
+    let name = cell.cell_text(alloc)?;
+    text.push_str(&name)?;
+    write!(text, " at {place}: F{number}")?;
+    Ok(text)
 }

@@ -3,6 +3,8 @@
 ghost use Rattle.std.specs.Prelude.{◌≡◌, ◌≢◌, [], false, IfSome, IfOk, map, string_bytes};
 ghost use Rattle.std.specs.Option.{option_map};
 ghost use Rattle.byte_streams.specs.Faults.{HasRisen};
+ghost use Rattle.formula_grammar.specs.Reading.{Reading, IsReading};
+ghost use Rattle.puncalc_program.specs.Loading.{the_names};
 ghost use Rattle.puncalc_program.specs.Output.{are_accepted, output, refusal, sheet_output};
 ghost use Rattle.puncalc_program.specs.Run.{RunEnds};
 
@@ -23,7 +25,7 @@ const SHEET_BYTES: usize = 67_108_864;
 #[tactic(auto, using(crate::proofs::Ends::told_ends_ok, crate::proofs::Ends::ends_ok))]
 pub fn run<S: Source, K: Sink>(alloc: Global, words: &Vec<String>, input: &mut S, out: &mut K) -> u8
     ensures ends { IfSome (S.left input.old)
-        (λ bytes. RunEnds (output (map string_bytes words.now.items) bytes) result (K.written out.old) (K.written out.new)) }
+        (λ bytes. (read : Reading) → IsReading the_names read → RunEnds (output read (map string_bytes words.now.items) bytes) result (K.written out.old) (K.written out.new)) }
     ensures read_whole { result ≡ 0 → S.left input.new ≡ option_map (λ _. []) (S.left input.old) }
 
     // The words alone decide on status 2, and nothing is read then.
@@ -55,7 +57,7 @@ fn answer<S: Source, K: Sink>(
     out: &mut K,
 ) -> Result<u8, Stop>
     ensures answers { IfSome (S.left input.old)
-        (λ bytes. Answers (output (map string_bytes words.now.items) bytes) (K.written out.old) (K.written out.new) result) }
+        (λ bytes. (read : Reading) → IsReading the_names read → Answers (output read (map string_bytes words.now.items) bytes) (K.written out.old) (K.written out.new) result) }
     ensures read_whole { IfOk result (λ status. status ≡ 0 → S.left input.new ≡ option_map (λ _. []) (S.left input.old)) }
     ensures refused_words { are_accepted (map string_bytes words.now.items) ≡ false →
         Answers (refusal Refusal.Words) (K.written out.old) (K.written out.new) result }
@@ -76,7 +78,7 @@ fn answer<S: Source, K: Sink>(
 #[tactic(auto, using(crate::proofs::Ends::told_too_long, crate::proofs::Ends::told_fits))]
 fn show_input<S: Source, K: Sink>(alloc: Global, input: &mut S, out: &mut K) -> Result<u8, Stop>
     ensures answers { IfSome (S.left input.old)
-        (λ bytes. Answers (sheet_output bytes) (K.written out.old) (K.written out.new) result) }
+        (λ bytes. (read : Reading) → IsReading the_names read → Answers (sheet_output read bytes) (K.written out.old) (K.written out.new) result) }
     ensures read_whole { IfOk result (λ status. status ≡ 0 → S.left input.new ≡ option_map (λ _. []) (S.left input.old)) }
     ensures accepted { IfOk result (λ status. status ≢ 2) }
     ensures ended { IfOk result (λ status. IsFinal status) }

@@ -32,7 +32,7 @@ impl Model for Sheet {
     ghost Value = { Book };
 
     ghost use Rattle.std.specs.Coded.{codes};
-    ghost use Rattle.formula_grammar.specs.ExprCode.{expr_code};
+    ghost use Rattle.formula_trees.specs.ExprCode.{expr_code};
 
     ghost coded = { Prim.hlevel (codes, expr_code) };
 

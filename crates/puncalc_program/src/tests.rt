@@ -24,66 +24,95 @@ fn show(alloc: Global, bytes: Vec<u8>) -> Result<(u8, PlainSink), AllocError> {
     Ok((status, out))
 }
 
-/// Each sheet is shown with this status and this output.
-fn expect_shown(
-    rt: &impl Abort,
-    alloc: Global,
-    rows: &[(&str, u8, &str)],
-) -> Result<(), AllocError> {
-    for (input, status, want) in rows {
-        let bytes = Vec::from_slice(alloc, input.as_bytes())?;
-        let (got, out) = show(alloc, bytes)?;
-        assert_eq!(rt; out.written(), want.as_bytes());
-        assert_eq!(rt; got, *status);
+/// What `show` makes of sheets: the input, the status and what is written. A double quote stands as `~` here, and
+/// the end of a line as `|`.
+const SHEETS: &str = "
+    1,=A1+1=>0 1,2|
+    1,=A1+1|=>0 1,2|
+    =A1=>0 #CYCLE!|
+    =B1,=C1,=B1=>0 #TOCYCLE!,#CYCLE!,#CYCLE!|
+    ~=IF(B1=0,7,A1)~,0=>0 7,0|
+    =1/0+B1,=B1=>0 #DIV/0!,#CYCLE!|
+    =B1+1/0,=B1=>0 #TOCYCLE!,#CYCLE!|
+    ~=IFERROR(B1,5)~,=B1=>0 #TOCYCLE!,#CYCLE!|
+    ~=INDEX(B1:C1,1,2)~,=A1,3=>0 3,3,3|
+    9223372036854775807,=A1+1=>0 9223372036854775807,#NUM!|
+    x,=SUM(A1:A2),=COUNT(A1:A2)|5=>0 x,5,1|5,,|
+    ~=VLOOKUP(2,A2:B3,2)~,|1,=A1|2,9=>0 9,|1,9|2,9|
+    =-7/2,~=MOD(-7,2)~,~=MOD(7,-2)~=>0 -3,1,-1|
+    =B1+1,text=>0 #VALUE!,text|
+    =Sheet1!B1,4=>0 4,4|
+    =sheet1!b1,4=>3 refused Sheet1!A1 at 1: F9|
+    =SUM(A1=>3 refused Sheet1!A1 at 7: F2|
+    =1.5=>3 refused Sheet1!A1 at 2: F1|
+    =FOO(1)=>3 refused Sheet1!A1 at 1: F3|
+    =SUM()=>3 refused Sheet1!A1 at 5: F5|
+    ~=NOT(1,2)~=>3 refused Sheet1!A1 at 6: F5|
+    =A1:A2=>3 refused Sheet1!A1 at 3: F2|
+    =A65537=>3 refused Sheet1!A1 at 1: F10|
+    ==>3 refused Sheet1!A1 at 1: F2|
+    1|=B7,=A1+=>3 refused Sheet1!B2 at 4: F2|
+    =1+,=2+=>3 refused Sheet1!A1 at 3: F2|
+    =9223372036854775808=>3 refused Sheet1!A1 at 1: F4|
+    x|~~|y|=>0 x|~~|y|
+    1,2|||3|=>0 1,2|3,|
+    ~a,b~,~say ~~so~~~|=>0 ~a,b~,~say ~~so~~~|
+";
+
+/// The sheets of the folder examples, and what they show.
+const EXAMPLES: &str = "
+    item,planned,spent,left,note|rent,80000,80000,=B2-C2,~=IF(D2<0,~~over~~,~~ok~~)~|food,40000,43250,=B3-C3,~=IF(D3<0,~~over~~,~~ok~~)~|bus,6000,4900,=B4-C4,~=IF(D4<0,~~over~~,~~ok~~)~|savings,15000,15000,=B5-C5,~=IF(D5<0,~~over~~,~~ok~~)~|sum,=SUM(B2:B5),=SUM(C2:C5),=SUM(D2:D5),~=IF(D6<0,~~over~~,~~ok~~)~|largest,=MAX(B2:B5),=MAX(C2:C5),,|percent for rent,=B2*100/B$6,=C2*100/C$6,,|=>0 item,planned,spent,left,note|rent,80000,80000,0,ok|food,40000,43250,-3250,over|bus,6000,4900,1100,ok|savings,15000,15000,0,ok|sum,141000,143150,-2150,over|largest,80000,80000,,|percent for rent,56,55,,|
+    day,Ann,Bob,Cyd,,shift,hours|Mon,early,late,night,,early,8|Tue,late,,early,,late,7|Wed,night,early,,,night,9|hours,~=IFERROR(VLOOKUP(B2,$F$2:$G$4,2,FALSE),0)+IFERROR(VLOOKUP(B3,$F$2:$G$4,2,FALSE),0)+IFERROR(VLOOKUP(B4,$F$2:$G$4,2,FALSE),0)~,~=IFERROR(VLOOKUP(C2,$F$2:$G$4,2,FALSE),0)+IFERROR(VLOOKUP(C3,$F$2:$G$4,2,FALSE),0)+IFERROR(VLOOKUP(C4,$F$2:$G$4,2,FALSE),0)~,~=IFERROR(VLOOKUP(D2,$F$2:$G$4,2,FALSE),0)+IFERROR(VLOOKUP(D3,$F$2:$G$4,2,FALSE),0)+IFERROR(VLOOKUP(D4,$F$2:$G$4,2,FALSE),0)~,,,|too much,=B5>20,=C5>20,=D5>20,,,|=>0 day,Ann,Bob,Cyd,,shift,hours|Mon,early,late,night,,early,8|Tue,late,,early,,late,7|Wed,night,early,,,night,9|hours,24,15,17,,,|too much,TRUE,FALSE,FALSE,,,|
+    code,cents,,item,code,count,price|A,250,,pens,A,10,~=VLOOKUP(E2,$A$2:$B$4,2)*F2~|B,1200,,book,B,2,~=VLOOKUP(E3,$A$2:$B$4,2)*F3~|C,90,,lamp,X,1,~=IFERROR(VLOOKUP(E4,$A$2:$B$4,2)*F4,~~no price~~)~|,,,sum,,,=SUM(G2:G4)|,,,discount,,,~=IF(G5>4000,G5/10,0)~|,,,net,,,=G5-G6|,,,shipping,,,~=IF(G9>5000,0,490)~|,,,total,,,=G7+G8|,,,per piece,,,=G9/SUM(F2:F4)|=>0 code,cents,,item,code,count,price|A,250,,pens,A,10,2500|B,1200,,book,B,2,2400|C,90,,lamp,X,1,no price|,,,sum,,,4900|,,,discount,,,490|,,,net,,,4410|,,,shipping,,,#CYCLE!|,,,total,,,#CYCLE!|,,,per piece,,,#TOCYCLE!|
+";
+
+/// A sheet of a table as it is read or written.
+fn spelled(alloc: Global, sheet: &str) -> Result<String, AllocError> {
+    let mut text = String::new(alloc);
+    for c in sheet.chars() {
+        match c {
+            '~' => text.push('"')?,
+            '|' => text.push('\n')?,
+            _ => text.push(c)?,
+        }
+    }
+    Ok(text)
+}
+
+/// Each sheet of a table is shown with its status and its output.
+fn expect_shown(rt: &impl Abort, alloc: Global, table: &str) -> Result<(), AllocError> {
+    for line in table.lines() {
+        let Some((input, want)) = line.trim_start().rsplit_once("=>") else {
+            continue;
+        };
+        let Some((status, want)) = want.split_once(' ') else {
+            continue;
+        };
+        let input = spelled(alloc, input)?;
+        let want = spelled(alloc, want)?;
+        let (got, out) = show(alloc, Vec::from_slice(alloc, input.as_bytes())?)?;
+        assert_eq!(rt; out.written(), want.as_bytes(), "at {line}");
+        assert_eq!(rt; status.parse::<u8>().ok(), Some(got), "at {line}");
     }
     Ok(())
 }
 
 #[test]
-fn shows_formulas(rt: HostRuntime) -> Result<(), Fail> {
-    expect_shown(
-        &rt,
-        rt.alloc(),
-        &[
-            ("", 0, ""),
-            ("1,=A1+1\n", 0, "1,2\n"),
-            ("1,=A1+1", 0, "1,2\n"),
-            ("=A1\n", 0, "#CYCLE!\n"),
-            ("=B1,=C1,=B1\n", 0, "#TOCYCLE!,#CYCLE!,#CYCLE!\n"),
-            (
-                "9223372036854775807,=A1+1\n",
-                0,
-                "9223372036854775807,#NUM!\n",
-            ),
-            ("=B1+1,text\n", 0, "#VALUE!,text\n"),
-            ("=C9+1\n", 0, "1\n"),
-        ],
-    )?;
+fn shows_sheets_and_refuses_others(rt: HostRuntime) -> Result<(), Fail> {
+    expect_shown(&rt, rt.alloc(), SHEETS)?;
+    expect_shown(&rt, rt.alloc(), EXAMPLES)?;
+    let (status, out) = show(rt.alloc(), Vec::new(rt.alloc()))?;
+    assert_eq!(rt; out.written(), b"".as_slice());
+    assert_eq!(rt; status, 0);
     Ok(())
 }
 
 #[test]
-fn shows_fields_and_refuses_others(rt: HostRuntime) -> Result<(), Fail> {
-    expect_shown(
-        &rt,
-        rt.alloc(),
-        &[
-            (
-                "\"=IF(B1=0,7,A1)\",0\n",
-                3,
-                "refused Sheet1 row 1 column 1: S9\n",
-            ),
-            ("1\n=B7,=A1+\n", 3, "refused Sheet1 row 2 column 2: S9\n"),
-            ("x\n\"\"\ny\n", 0, "x\n\"\"\ny\n"),
-            ("1,2\n\n\n3\n", 0, "1,2\n3,\n"),
-            ("\u{FEFF}a,TRUE\r\n'=x,-5\r\n", 0, "a,TRUE\n=x,-5\n"),
-            (
-                "\"a,b\",\"say \"\"so\"\"\"\n",
-                0,
-                "\"a,b\",\"say \"\"so\"\"\"\n",
-            ),
-        ],
-    )?;
+fn reads_bytes_as_they_come(rt: HostRuntime) -> Result<(), Fail> {
+    let marked = b"\xEF\xBB\xBFa,TRUE\r\n'=x,-5\r\n";
+    let (status, out) = show(rt.alloc(), Vec::from_slice(rt.alloc(), marked)?)?;
+    assert_eq!(rt; out.written(), b"a,TRUE\n=x,-5\n".as_slice());
+    assert_eq!(rt; status, 0);
     let (status, out) = show(rt.alloc(), Vec::from_slice(rt.alloc(), b"1,\xFF\n")?)?;
     assert_eq!(rt;
         out.written(),

@@ -2,10 +2,7 @@ use Rattle.std.proofs.Common.{◌≡◌, ◌∙◌, ◌<◌, ◌≤◌, sym, sub
 use Rattle.std.proofs.lemmas.Result.{err_from_is_err_and}
 use Rattle.cell_values.specs.declared.address.Addr.{Addr}
 use Rattle.cell_values.specs.declared.fields.Raw.{Raw}
-use Rattle.cell_values.specs.Texts.{Texts}
 use Rattle.sheet_csv.specs.Sheet.{sheet_fields, cells_of}
-use Rattle.puncalc_program.specs.Loading.{loaded}
-use Rattle.puncalc_program.specs.Faults.{IsLoadFault}
 use Rattle.puncalc_program.specs.Ordered.{AreSheetCells}
 use Rattle.puncalc_program.proofs.Cells.{sheet_cells}
 use Rattle.puncalc_program.proofs.Filling.{drop-all, Fills, fills_start, fills_next, next_cell, filled, stopped}
@@ -33,6 +30,10 @@ pub add-requires-clause-text : goal.add-requires-clause-text
 add-requires-clause-text c =
     (next_cell c.read_sheet.new.texts c.deref-at-items.result.now c.loop-at.at-index c.loop-at-item.result c.loop-at.sheet c.loop-at-test.true c.loop-at-item.is c.loop-at.invariant).text
 
+pub add-requires-clause-formula : goal.add-requires-clause-formula
+add-requires-clause-formula c =
+    (next_cell c.read_sheet.new.texts c.deref-at-items.result.now c.loop-at.at-index c.loop-at-item.result c.loop-at.sheet c.loop-at-test.true c.loop-at-item.is c.loop-at.invariant).formula
+
 pub loop-at-preserved : goal.loop-at-preserved
 loop-at-preserved c =
     fills_next c.read_sheet.new.texts c.deref-at-items.result.now c.loop-at.at-index c.loop-at-item.result c.loop-at.sheet c.add.new.self c.loop-at-test.true c.loop-at-item.is c.loop-at.invariant c.in_ok-add.ensures.ok
@@ -40,17 +41,23 @@ loop-at-preserved c =
 pub returns-in_err-add : goal.returns-in_err-add
 returns-in_err-add c =
     let p = err_from_is_err_and c.from_residual-in_err-add.result c.from_residual-in_err-add.ensures.1 in
-    rw (p.1, p.2) (stopped c.args.bytes.now c.read_sheet.new.texts c.in_ok-cells.cells.items c.loop-at.at-index c.loop-at-item.result c.loop-at.sheet c.in_err-add.field-0.0 c.in_ok-cells.ensures.no_fault
-    (c.in_ok-cells.ensures.cells ∙ ap (λ ts. cells_of 0 ts (sheet_fields c.args.bytes.now)) c.new-texts.ensures)
-    (subst (λ (cs : List (Addr × Raw)). c.loop-at.at-index < length cs) c.deref-at-items.ensures.value c.loop-at-test.true)
-    (subst (λ (cs : List (Addr × Raw)). c.loop-at-item.result ≡ get_or cs c.loop-at.at-index c.loop-at-item.result) c.deref-at-items.ensures.value c.loop-at-item.is)
-    (subst (λ (cs : List (Addr × Raw)). Fills c.read_sheet.new.texts cs (drop c.loop-at.at-index cs) c.loop-at.sheet) c.deref-at-items.ensures.value c.loop-at.invariant)
-    c.in_err-add.ensures.fault)
+    rw (p.1, p.2) (record {
+      loaded = stopped c.args.bytes.now c.read_sheet.new.texts c.in_ok-cells.cells.items c.loop-at.at-index c.loop-at-item.result c.loop-at.sheet c.in_err-add.field-0.0 c.in_ok-cells.ensures.no_fault
+          (c.in_ok-cells.ensures.cells ∙ ap (λ ts. cells_of 0 ts (sheet_fields c.args.bytes.now)) c.new-texts.ensures)
+          (subst (λ (cs : List (Addr × Raw)). c.loop-at.at-index < length cs) c.deref-at-items.ensures.value c.loop-at-test.true)
+          (subst (λ (cs : List (Addr × Raw)). c.loop-at-item.result ≡ get_or cs c.loop-at.at-index c.loop-at-item.result) c.deref-at-items.ensures.value c.loop-at-item.is)
+          (subst (λ (cs : List (Addr × Raw)). Fills c.read_sheet.new.texts cs (drop c.loop-at.at-index cs) c.loop-at.sheet) c.deref-at-items.ensures.value c.loop-at.invariant)
+          c.in_err-add.ensures.fault;
+      place = c.in_err-add.ensures.place;
+    })
 
 pub returns : goal.returns
 returns c =
     let n : length c.deref-at-items.result.now ≤ c.loop-at.at-index = omega (arith, c.loop-at-test.false) in
-    filled c.args.bytes.now c.read_sheet.new.texts c.in_ok-cells.cells.items c.loop-at.sheet c.in_ok-cells.ensures.no_fault
-    (c.in_ok-cells.ensures.cells ∙ ap (λ ts. cells_of 0 ts (sheet_fields c.args.bytes.now)) c.new-texts.ensures)
-    (subst (λ (cs : List (Addr × Raw)). Fills c.read_sheet.new.texts cs [] c.loop-at.sheet) c.deref-at-items.ensures.value
-    (subst (λ (rest : List (Addr × Raw)). Fills c.read_sheet.new.texts c.deref-at-items.result.now rest c.loop-at.sheet) (drop-all c.deref-at-items.result.now c.loop-at.at-index n) c.loop-at.invariant))
+    record {
+      place = tt;
+      loaded = filled c.args.bytes.now c.read_sheet.new.texts c.in_ok-cells.cells.items c.loop-at.sheet c.in_ok-cells.ensures.no_fault
+          (c.in_ok-cells.ensures.cells ∙ ap (λ ts. cells_of 0 ts (sheet_fields c.args.bytes.now)) c.new-texts.ensures)
+          (subst (λ (cs : List (Addr × Raw)). Fills c.read_sheet.new.texts cs [] c.loop-at.sheet) c.deref-at-items.ensures.value
+          (subst (λ (rest : List (Addr × Raw)). Fills c.read_sheet.new.texts c.deref-at-items.result.now rest c.loop-at.sheet) (drop-all c.deref-at-items.result.now c.loop-at.at-index n) c.loop-at.invariant));
+    }

@@ -1,4 +1,4 @@
-use Rattle.std.proofs.Common.{◌≡◌, ℕ, ◌-◌, ◌<◌, suc, length, drop, arith, refl, subst, sym}
+use Rattle.std.proofs.Common.{◌≡◌, ℕ, ◌-◌, ◌<◌, suc, length, drop, arith, refl, subst}
 use Rattle.cell_values.specs.declared.address.Addr.{Addr}
 use Rattle.puncalc_program.specs.Recalculated.{result_in}
 use Rattle.puncalc_program.proofs.Shows.{inserted_next}

@@ -2,7 +2,7 @@ use Rattle.std.proofs.Common.{◌≡◌, ◌∙◌, sym, subst, IfOk, string_byt
 use Rattle.cell_values.specs.declared.values.Shown.{Shown}
 use Rattle.cell_values.specs.ShownText.{IsShownOf, shown_text}
 use Rattle.demand_spec.specs.Book.{Book, own}
-use Rattle.puncalc_program.specs.Recalculated.{result_in, result_or}
+use Rattle.puncalc_program.specs.Recalculated.{result_or}
 use Rattle.puncalc_program.specs.Sheets.{cell_shows}
 use Rattle.puncalc_program.proofs.sheet.Sheet.cell_text.Goals as goal
 
