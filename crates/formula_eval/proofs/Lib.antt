@@ -1,0 +1,12 @@
+pub mod Values
+pub mod Walking
+pub mod Sounded
+pub mod Parts
+pub mod Moves
+pub mod Begins
+pub mod Ranges
+pub mod Searches
+pub mod Turns
+pub mod Lines
+pub mod Levels
+pub mod Client

@@ -1,0 +1,26 @@
+use Rattle.std.proofs.Common.{sym, ap, ◌∙◌, subst}
+use Rattle.builtin_functions.specs.Tables.{unary_value, binary_value}
+use Rattle.shared_expressions.specs.Trees.{tree_at}
+use Rattle.formula_eval.specs.declared.work.Step.{Step}
+use Rattle.formula_eval.specs.declared.work.Work.TheVariants.{First, Second}
+use Rattle.formula_eval.specs.Machine.{IsOperand, WorkFits, GoesOn}
+use Rattle.formula_eval.proofs.Begins.{go_unary, go_left, go_right}
+use Rattle.formula_eval.proofs.machine.go_on.Goals as goal
+
+pub returns-in-Unary-First-clause-goes : goal.returns-in-Unary-First-clause-goes
+returns-in-Unary-First-clause-goes c =
+    subst (λ w. GoesOn c.args.pool.now c.args.texts.now c.args.at c.args.id w c.args.v c.args.frames.now.frames (Step.Give c.unary.result) c.args.frames.now.frames) (sym c.in-Unary-First.is-1)
+    (subst (λ z. GoesOn c.args.pool.now c.args.texts.now c.args.at c.args.id First c.args.v c.args.frames.now.frames (Step.Give z) c.args.frames.now.frames) (sym (c.unary.ensures ∙ ap (λ z. unary_value z c.args.v) c.sign_of.ensures))
+    (go_unary c.args.pool.now c.args.texts.now c.args.at c.args.id c.in-Unary-First.sign c.args.v c.args.frames.now.frames c.in-Unary-First.ensures))
+
+pub returns-in-false-clause-goes : goal.returns-in-false-clause-goes
+returns-in-false-clause-goes c =
+    subst (λ w. GoesOn c.args.pool.now c.args.texts.now c.args.at c.args.id w c.args.v c.args.frames.now.frames c.wait_for.result c.wait_for.new.frames.frames) (sym c.in-Binary-First.is-1)
+    (go_left c.args.pool.now c.args.texts.now c.args.at c.args.id c.in-Binary-First.field-0-0 c.args.v c.args.frames.now.frames c.wait_for.result c.wait_for.new.frames.frames c.in-Binary-First.ensures (sym c.in-false.ensures) c.requires.value c.wait_for.ensures.waits)
+
+pub returns-in-Binary-Second-clause-goes : goal.returns-in-Binary-Second-clause-goes
+returns-in-Binary-Second-clause-goes c =
+    let fits : IsOperand c.args.texts.now c.in-Binary-Second.x = subst (WorkFits c.args.texts.now c.args.at (tree_at c.args.pool.now c.args.id)) c.in-Binary-Second.is-1 c.requires.work in
+    subst (λ w. GoesOn c.args.pool.now c.args.texts.now c.args.at c.args.id w c.args.v c.args.frames.now.frames (Step.Give c.binary.result) c.args.frames.now.frames) (sym c.in-Binary-Second.is-1)
+    (subst (λ z. GoesOn c.args.pool.now c.args.texts.now c.args.at c.args.id (Second c.in-Binary-Second.x) c.args.v c.args.frames.now.frames (Step.Give z) c.args.frames.now.frames) (sym (c.binary.ensures ∙ ap (λ z. binary_value c.args.texts.now z c.in-Binary-Second.x c.args.v) c.op_of.ensures))
+    (go_right c.args.pool.now c.args.texts.now c.args.at c.args.id c.in-Binary-Second.op c.in-Binary-Second.x c.args.v c.args.frames.now.frames c.in-Binary-Second.ensures fits))

@@ -1,0 +1,307 @@
+//! Calls, one value at a time.
+ghost use Rattle.std.specs.Prelude.{◌≡◌, ◌<◌, IfSome, Some, length, true};
+ghost use Rattle.cell_values.specs.Areas.{IsArea};
+ghost use Rattle.cell_values.specs.Texts.{Texts};
+ghost use Rattle.builtin_functions.specs.Tables.{IsValueOf, is_error, as_number};
+ghost use Rattle.builtin_functions.specs.Folds.{taken};
+ghost use Rattle.demand_spec.specs.Formula.{is_found};
+ghost use Rattle.shared_expressions.specs.Trees.{root_of, tree_at, child_of};
+ghost use Rattle.formula_trees.specs.Mentions.{Cells};
+ghost use Rattle.formula_eval.specs.Cells.{place_seen, HasArea};
+ghost use Rattle.formula_eval.specs.Machine.{first_number, second_number, turn_of, fold_of, place_named, is_lookup, fun_of, index_below, across, Holds, IsOperand, range_of, Starts, TurnGoesOn, FoldGoesOn, CellsGoOn, SearchGoesOn, LookupGoesOn, Waits, Instead};
+
+use crate::cells::{Place, first_cell, line_cell, next_cell, place_at};
+use crate::frames::Frames;
+use crate::work::{Frame, Step, Work};
+use builtin_functions::operators::same;
+use builtin_functions::{Fold, FoldKind, Go};
+use cell_values::{Addr, Area, Code, Int, Texts, Value};
+use formula_trees::Fun;
+use shared_expressions::{ExprId, Node, Pool};
+
+/// A child is evaluated while its parent waits.
+pub fn wait_for(frames: &mut Frames, pool: &Pool, id: ExprId, k: u32, work: Work) -> Step
+    requires { length frames.old.frames < frames.old.room }
+    ensures waits { Waits pool.now id work (child_of k (tree_at pool.now id)) frames.old.frames result frames.new.frames }
+    ensures room { frames.new.room ≡ frames.old.room }
+{
+    match pool.child(id, k) {
+        Some(child) => {
+            frames.push(Frame::At(id, work));
+            Step::Eval(child)
+        }
+        None => Step::Give(Value::Error(Code::Value)),
+    }
+}
+
+/// A child in place of its parent.
+pub fn child_instead(pool: &Pool, id: ExprId, k: u32, other: Value) -> Step
+    ensures { Instead pool.now (child_of k (tree_at pool.now id)) other result }
+{
+    match pool.child(id, k) {
+        Some(child) => Step::Eval(child),
+        None => Step::Give(other),
+    }
+}
+
+/// Where an argument of a call stands.
+pub fn range(pool: &Pool, id: ExprId, k: u32, at: Addr) -> Place
+    ensures same { place_seen result ≡ place_named at (child_of k (tree_at pool.now id)) }
+    ensures within { HasArea result }
+{
+    match pool.child(id, k) {
+        Some(child) => place_at(pool, child, at),
+        None => Place::Nowhere,
+    }
+}
+
+fn first_number(fun: Fun) -> u32
+    ensures { result ≡ first_number fun }
+{
+    match fun {
+        Fun::Index => 1,
+        _ => 0,
+    }
+}
+
+pub fn second_number(fun: Fun) -> u32
+    ensures { result ≡ second_number fun }
+{
+    match fun {
+        Fun::Mod | Fun::Quotient => 1,
+        _ => 2,
+    }
+}
+
+pub fn turn_of(fun: Fun) -> Option<bool>
+    ensures { result ≡ turn_of fun }
+{
+    match fun {
+        Fun::And => Some(true),
+        Fun::Or => Some(false),
+        _ => None,
+    }
+}
+
+pub fn fold_of(fun: Fun) -> Option<FoldKind>
+    ensures { result ≡ fold_of fun }
+{
+    match fun {
+        Fun::Sum => Some(FoldKind::Sum),
+        Fun::Min => Some(FoldKind::Min),
+        Fun::Max => Some(FoldKind::Max),
+        Fun::Count => Some(FoldKind::Count),
+        _ => None,
+    }
+}
+
+/// Whether a value is an error.
+pub fn is_error(v: Value) -> bool
+    ensures { result ≡ is_error v }
+{
+    match v {
+        Value::Error(_) => true,
+        _ => false,
+    }
+}
+
+/// Whether a function searches a column or a row.
+pub fn is_lookup(fun: Fun) -> bool
+    ensures { result ≡ is_lookup fun }
+{
+    match fun {
+        Fun::VLookup | Fun::HLookup => true,
+        _ => false,
+    }
+}
+
+/// The number of a value, Blank as 0.
+pub fn number(v: Value) -> Option<Int>
+    ensures { result ≡ as_number v }
+{
+    match v {
+        Value::Number(n) => Some(n),
+        Value::Blank => Some(0),
+        _ => None,
+    }
+}
+
+/// A number from 1 to `most`, counted from 0.
+pub fn index_below(most: u32, n: Int) -> Option<u32>
+    ensures same { result ≡ index_below most n }
+    ensures within { IfSome result (λ m. m < most) }
+{
+    if n < 1 || Int::from(most) < n {
+        None
+    } else {
+        Some((n - 1) as u32)
+    }
+}
+
+/// A value on in a fold.
+pub fn take(
+    kind: FoldKind,
+    total: Option<Int>,
+    in_range: bool,
+    v: Value,
+) -> Result<Option<Int>, Code>
+    ensures { result ≡ taken kind total in_range v }
+{
+    let mut fold = Fold { kind, total };
+    match fold.take(v, in_range) {
+        Go::More => Ok(fold.total),
+        Go::Stop(code) => Err(code),
+    }
+}
+
+/// Whether a cell's value is the one that is searched. An error or Blank is passed over.
+pub fn is_found(key: Value, v: Value, texts: &Texts) -> bool
+    requires key { IsOperand texts.now key }
+    requires value { IsValueOf texts.now v }
+    ensures { result ≡ is_found texts.now key v }
+{
+    match v {
+        Value::Error(_) | Value::Blank => false,
+        _ => same(v, key, texts),
+    }
+}
+
+/// A call is begun.
+pub fn start_call(frames: &mut Frames, pool: &Pool, id: ExprId, at: Addr, fun: Fun) -> Step
+    requires holds { Holds frames.old.room (length frames.old.frames) (tree_at pool.now id) }
+    requires call { root_of (tree_at pool.now id) ≡ Node.Call fun }
+    ensures starts { (ts : Texts) → Starts pool.now ts at id frames.old.frames result frames.new.frames }
+    ensures room { frames.new.room ≡ frames.old.room }
+{
+    match turn_of(fun) {
+        Some(going) => turn_on(frames, pool, id, at, going, 0),
+        None => match fold_of(fun) {
+            Some(kind) => fold_on(frames, pool, id, at, kind, 0, None),
+            None => wait_for(frames, pool, id, first_number(fun), Work::First),
+        },
+    }
+}
+
+/// AND or OR goes on from an argument.
+pub fn turn_on(frames: &mut Frames, pool: &Pool, id: ExprId, at: Addr, going: bool, k: u16) -> Step
+    requires holds { Holds frames.old.room (length frames.old.frames) (tree_at pool.now id) }
+    requires call { turn_of (fun_of (tree_at pool.now id)) ≡ Some going }
+    ensures goes { (ts : Texts) → TurnGoesOn pool.now ts at id going k frames.old.frames result frames.new.frames }
+    ensures room { frames.new.room ≡ frames.old.room }
+{
+    match pool.child(id, u32::from(k)) {
+        None => Step::Give(Value::Bool(going)),
+        Some(child) => {
+            frames.push(Frame::At(id, Work::Turn(k + 1)));
+            Step::Eval(child)
+        }
+    }
+}
+
+/// A fold goes on from an argument.
+pub fn fold_on(
+    frames: &mut Frames,
+    pool: &Pool,
+    id: ExprId,
+    at: Addr,
+    kind: FoldKind,
+    k: u16,
+    total: Option<Int>,
+) -> Step
+    requires holds { Holds frames.old.room (length frames.old.frames) (tree_at pool.now id) }
+    requires call { fold_of (fun_of (tree_at pool.now id)) ≡ Some kind }
+    ensures goes { (ts : Texts) → FoldGoesOn pool.now ts at id kind k total frames.old.frames result frames.new.frames }
+    ensures room { frames.new.room ≡ frames.old.room }
+{
+    match pool.child(id, u32::from(k)) {
+        None => Step::Give(Fold { kind, total }.end()),
+        Some(child) => match place_at(pool, child, at) {
+            Place::Cells(area) => {
+                frames.push(Frame::At(id, Work::Cell(k, 1, total)));
+                Step::Look(first_cell(area))
+            }
+            Place::Bad => Step::Give(Value::Error(Code::Ref)),
+            Place::Nowhere => {
+                frames.push(Frame::At(id, Work::Argument(k + 1, total)));
+                Step::Eval(child)
+            }
+        },
+    }
+}
+
+/// A fold goes on from a cell of an argument.
+pub fn cells_on(
+    frames: &mut Frames,
+    pool: &Pool,
+    id: ExprId,
+    at: Addr,
+    kind: FoldKind,
+    k: u16,
+    n: u32,
+    total: Option<Int>,
+) -> Step
+    requires holds { Holds frames.old.room (length frames.old.frames) (tree_at pool.now id) }
+    requires call { fold_of (fun_of (tree_at pool.now id)) ≡ Some kind }
+    ensures goes { (ts : Texts) → CellsGoOn pool.now ts at id kind k n total frames.old.frames result frames.new.frames }
+    ensures room { frames.new.room ≡ frames.old.room }
+{
+    match pool.child(id, u32::from(k)) {
+        None => Step::Give(Fold { kind, total }.end()),
+        Some(child) => match next_cell(pool, child, at, n) {
+            Some(a) => {
+                frames.push(Frame::At(id, Work::Cell(k, n + 1, total)));
+                Step::Look(a)
+            }
+            None => fold_on(frames, pool, id, at, kind, k + 1, total),
+        },
+    }
+}
+
+/// MATCH goes on from a cell.
+pub fn search_on(frames: &mut Frames, pool: &Pool, id: ExprId, at: Addr, key: Value, n: u32) -> Step
+    requires holds { Holds frames.old.room (length frames.old.frames) (tree_at pool.now id) }
+    requires call { root_of (tree_at pool.now id) ≡ Node.Call Fun.Match }
+    ensures goes { (ts : Texts) → IsOperand ts key → SearchGoesOn pool.now ts at id key n frames.old.frames result frames.new.frames }
+    ensures room { frames.new.room ≡ frames.old.room }
+{
+    match pool.child(id, 1) {
+        None => Step::Give(Value::Error(Code::Na)),
+        Some(child) => match next_cell(pool, child, at, n) {
+            Some(a) => {
+                frames.push(Frame::At(id, Work::Search(n + 1, key)));
+                Step::Look(a)
+            }
+            None => Step::Give(Value::Error(Code::Na)),
+        },
+    }
+}
+
+/// A lookup goes on from a cell of its line.
+pub fn lookup_on(
+    frames: &mut Frames,
+    pool: &Pool,
+    id: ExprId,
+    at: Addr,
+    fun: Fun,
+    area: Area,
+    key: Value,
+    m: u16,
+    n: u32,
+) -> Step
+    requires holds { Holds frames.old.room (length frames.old.frames) (tree_at pool.now id) }
+    requires call { root_of (tree_at pool.now id) ≡ Node.Call fun }
+    requires lookup { is_lookup fun ≡ true }
+    requires range { range_of at (tree_at pool.now id) ≡ Cells area }
+    requires area { IsArea area }
+    requires line { m < across fun area }
+    ensures goes { (ts : Texts) → IsOperand ts key → LookupGoesOn pool.now ts at id fun area key m n frames.old.frames result frames.new.frames }
+    ensures room { frames.new.room ≡ frames.old.room }
+{
+    match line_cell(fun, area, n) {
+        Some(a) => {
+            frames.push(Frame::At(id, Work::Lookup(m, n, key)));
+            Step::Look(a)
+        }
+        None => Step::Give(Value::Error(Code::Na)),
+    }
+}

@@ -1,0 +1,264 @@
+//! Evaluations over values that are known: begun, taken up again, dropped.
+ghost use Rattle.std.specs.Prelude.{◌≡◌, ◌+◌, ◌≤◌, ℕ, List, length, min};
+ghost use Rattle.cell_values.specs.declared.address.Addr.{Addr};
+ghost use Rattle.cell_values.specs.Texts.{Texts};
+ghost use Rattle.formula_trees.specs.Sound.{IsSound};
+ghost use Rattle.builtin_functions.specs.Tables.{IsValueOf};
+ghost use Rattle.demand_spec.specs.Book.{look, ask};
+ghost use Rattle.demand_spec.specs.Formula.{plan, op_of, sign_of};
+ghost use Rattle.demand_spec.specs.Plan.{Plan};
+ghost use Rattle.shared_expressions.specs.Trees.{tree_at, depth};
+ghost use Rattle.formula_eval.specs.declared.work.Frame.{Frame};
+ghost use Rattle.formula_eval.specs.Stacks.{IsShut, dropped};
+ghost use Rattle.formula_eval.specs.Machine.{Fits, Holds, IsMeant, WorkFits, Starts, GoesOn};
+ghost use Rattle.formula_eval.specs.Told.{found_as, MeansValue, Turns, Comes, Answered, Stands, HasOpen, demanded, rest_of};
+
+use crate::calls::{is_error, start_call, wait_for};
+use crate::frames::Frames;
+use crate::taken::call_on;
+use crate::work::{Frame, Step, Work};
+use builtin_functions::operators::{binary, unary};
+use builtin_functions::{Op2, Sign2};
+use cell_values::{Addr, Code, Texts, Value};
+use demand_spec::Asked;
+use formula_trees::{Op, Sign, resolve};
+use shared_expressions::{ExprId, Node, Pool};
+
+/// What is known of a cell.
+#[derive(Clone, Copy, Debug, PartialEq, Eq)]
+pub enum Look {
+    Val(Value),
+    Missing,
+}
+
+/// Known values of formula cells over a book, with a count of the looks.
+pub trait Known {
+    ghost use Rattle.demand_spec.specs.Book.{Book, Known as Values};
+
+    ghost book: { Self → Book };
+
+    ghost values: { Self → Values };
+
+    ghost looks: { Self → ℕ };
+
+    /// A cell without a formula has its own value, Blank where it is empty. Missing comes exactly for a
+    /// formula cell whose value is not known.
+    fn look(&mut self, at: Addr) -> Look
+        ensures found { found_as result at ≡ look (book self.old) (values self.old) at }
+        ensures texts { MeansValue (book self.old).texts result }
+        ensures book { book self.new ≡ book self.old }
+        ensures values { values self.new ≡ values self.old }
+        ensures looks { looks self.new ≡ min (looks self.old + 1) 18446744073709551615 };
+}
+
+fn op_of(op: Op) -> Op2
+    ensures { result ≡ op_of op }
+{
+    match op {
+        Op::Add => Op2::Add,
+        Op::Sub => Op2::Sub,
+        Op::Mul => Op2::Mul,
+        Op::Div => Op2::Div,
+        Op::Eq => Op2::Eq,
+        Op::Ne => Op2::Ne,
+        Op::Lt => Op2::Lt,
+        Op::Le => Op2::Le,
+        Op::Gt => Op2::Gt,
+        Op::Ge => Op2::Ge,
+    }
+}
+
+fn sign_of(sign: Sign) -> Sign2
+    ensures { result ≡ sign_of sign }
+{
+    match sign {
+        Sign::Minus => Sign2::Minus,
+        Sign::Plus => Sign2::Plus,
+    }
+}
+
+/// An expression is begun.
+fn start(frames: &mut Frames, pool: &Pool, id: ExprId, at: Addr) -> Step
+    requires { Holds frames.old.room (length frames.old.frames) (tree_at pool.now id) }
+    ensures starts { (ts : Texts) → Starts pool.now ts at id frames.old.frames result frames.new.frames }
+    ensures room { frames.new.room ≡ frames.old.room }
+{
+    match pool.node(id) {
+        Node::Number(n) => Step::Give(Value::Number(n)),
+        Node::Text(t) => Step::Give(Value::Text(t)),
+        Node::Bool(b) => Step::Give(Value::Bool(b)),
+        Node::Ref(reference) => match resolve(&reference, at) {
+            Some(a) => Step::Look(a),
+            None => Step::Give(Value::Error(Code::Ref)),
+        },
+        Node::Range(_, _) => Step::Give(Value::Error(Code::Value)),
+        Node::RefError => Step::Give(Value::Error(Code::Ref)),
+        Node::Unary(_) => wait_for(frames, pool, id, 0, Work::First),
+        Node::Binary(_) => wait_for(frames, pool, id, 0, Work::First),
+        Node::Call(fun) => start_call(frames, pool, id, at, fun),
+    }
+}
+
+/// A node goes on with a value.
+fn go_on(
+    frames: &mut Frames,
+    pool: &Pool,
+    texts: &Texts,
+    id: ExprId,
+    work: Work,
+    v: Value,
+    at: Addr,
+) -> Step
+    requires holds { Holds frames.old.room (length frames.old.frames) (tree_at pool.now id) }
+    requires work { WorkFits texts.now at (tree_at pool.now id) work }
+    requires value { IsValueOf texts.now v }
+    ensures goes { GoesOn pool.now texts.now at id work v frames.old.frames result frames.new.frames }
+    ensures room { frames.new.room ≡ frames.old.room }
+{
+    match (pool.node(id), work) {
+        (Node::Unary(sign), Work::First) => Step::Give(unary(sign_of(sign), v)),
+        (Node::Binary(_), Work::First) => match is_error(v) {
+            true => Step::Give(v),
+            false => wait_for(frames, pool, id, 1, Work::Second(v)),
+        },
+        (Node::Binary(op), Work::Second(x)) => Step::Give(binary(op_of(op), x, v, texts)),
+        (Node::Call(fun), _) => call_on(frames, pool, texts, id, at, fun, work, v),
+        _ => Step::Give(Value::Error(Code::Value)),
+    }
+}
+
+/// One turn of the machine.
+fn turn<K: Known>(
+    frames: &mut Frames,
+    pool: &Pool,
+    texts: &Texts,
+    at: Addr,
+    step: Step,
+    known: &mut K,
+) -> Result<Step, Asked>
+    requires fits { Fits pool.now texts.now at frames.old.room step frames.old.frames }
+    requires texts { texts.now ≡ (K.book known.old).texts }
+    ensures turns { Turns pool.now texts.now at (look (K.book known.old) (K.values known.old)) step frames.old.frames result frames.new.frames (K.looks known.old) (K.looks known.new) }
+    ensures room { frames.new.room ≡ frames.old.room }
+    ensures book { K.book known.new ≡ K.book known.old }
+    ensures values { K.values known.new ≡ K.values known.old }
+{
+    match step {
+        Step::Eval(id) => Ok(start(frames, pool, id, at)),
+        Step::Give(v) => match frames.pop() {
+            None => Err(Asked::Val(v)),
+            Some((id, work)) => Ok(go_on(frames, pool, texts, id, work, v, at)),
+        },
+        Step::Look(a) => match known.look(a) {
+            Look::Val(v) => Ok(Step::Give(v)),
+            Look::Missing => {
+                frames.push(Frame::Opened(at, a));
+                Err(Asked::Needs(a))
+            }
+        },
+    }
+}
+
+/// The machine, from a step on.
+fn run<K: Known>(
+    frames: &mut Frames,
+    pool: &Pool,
+    texts: &Texts,
+    at: Addr,
+    first: Step,
+    known: &mut K,
+) -> Asked
+    requires fits { Fits pool.now texts.now at frames.old.room first frames.old.frames }
+    requires texts { texts.now ≡ (K.book known.old).texts }
+    ensures comes { Comes pool.now texts.now at (look (K.book known.old) (K.values known.old)) first frames.old.frames result frames.new.frames (K.looks known.old) (K.looks known.new) }
+    ensures room { frames.new.room ≡ frames.old.room }
+    ensures book { K.book known.new ≡ K.book known.old }
+    ensures values { K.values known.new ≡ K.values known.old }
+{
+    let mut step = first;
+    loop {
+        match turn(frames, pool, texts, at, step, known) {
+            Ok(next) => step = next,
+            Err(answer) => return answer,
+        }
+    }
+}
+
+/// Opens the evaluation of an expression at a cell. Where it needs a cell, it stays open above those that
+/// were open before. `Needs(x)` comes exactly where x is the first formula cell that is demanded and whose
+/// value is not known.
+pub fn begin<K: Known>(
+    frames: &mut Frames,
+    pool: &Pool,
+    texts: &Texts,
+    id: ExprId,
+    at: Addr,
+    known: &mut K,
+) -> Asked
+    requires shut { IsShut frames.old.frames }
+    requires room { length frames.old.frames + depth (tree_at pool.now id) ≤ frames.old.room }
+    requires sound { IsSound at (tree_at pool.now id) }
+    requires meant { IsMeant texts.now (tree_at pool.now id) }
+    requires texts { texts.now ≡ (K.book known.old).texts }
+    ensures answer { result ≡ ask (K.book known.old) (K.values known.old) at (tree_at pool.now id) }
+    ensures open { Answered pool.now texts.now (look (K.book known.old) (K.values known.old)) (length frames.old.frames + depth (tree_at pool.now id)) at (plan texts.now at (tree_at pool.now id)) frames.old.frames result frames.new.frames }
+    ensures looks { K.looks known.new ≤ K.looks known.old + length (demanded (look (K.book known.old) (K.values known.old)) (plan texts.now at (tree_at pool.now id))) }
+    ensures room { frames.new.room ≡ frames.old.room }
+    ensures book { K.book known.new ≡ K.book known.old }
+    ensures values { K.values known.new ≡ K.values known.old }
+{
+    run(frames, pool, texts, at, Step::Eval(id), known)
+}
+
+/// Goes on with the last open evaluation at the cell that it needs. What was known at its earlier calls is
+/// known still.
+pub fn resume<K: Known>(frames: &mut Frames, pool: &Pool, texts: &Texts, known: &mut K) -> Asked
+    requires open { HasOpen pool.now texts.now frames.old.room frames.old.frames }
+    requires texts { texts.now ≡ (K.book known.old).texts }
+    ensures open { (limit : ℕ) (at : Addr) (q : Plan) (x : Addr) (base : List Frame) → Stands pool.now texts.now (look (K.book known.old) (K.values known.old)) limit at q x frames.old.frames base → Answered pool.now texts.now (look (K.book known.old) (K.values known.old)) limit at q base result frames.new.frames }
+    ensures looks { K.looks known.new ≤ K.looks known.old + length (demanded (look (K.book known.old) (K.values known.old)) (rest_of pool.now texts.now frames.old.frames)) }
+    ensures room { frames.new.room ≡ frames.old.room }
+    ensures book { K.book known.new ≡ K.book known.old }
+    ensures values { K.values known.new ≡ K.values known.old }
+{
+    match frames.reopen() {
+        None => Asked::Val(Value::Blank),
+        Some((at, need)) => run(frames, pool, texts, at, Step::Look(need), known),
+    }
+}
+
+/// Drops the last open evaluation.
+pub fn abandon(frames: &mut Frames)
+    ensures dropped { frames.new.frames ≡ dropped frames.old.frames }
+    ensures room { frames.new.room ≡ frames.old.room }
+{
+    let _mark = frames.reopen();
+    while let Some(_frame) = frames.pop() {}
+}
+
+/// What an expression gives at a cell, over the values that are known. The open evaluations stay.
+pub fn ask<K: Known>(
+    frames: &mut Frames,
+    pool: &Pool,
+    texts: &Texts,
+    id: ExprId,
+    at: Addr,
+    known: &mut K,
+) -> Asked
+    requires shut { IsShut frames.old.frames }
+    requires room { length frames.old.frames + depth (tree_at pool.now id) ≤ frames.old.room }
+    requires sound { IsSound at (tree_at pool.now id) }
+    requires meant { IsMeant texts.now (tree_at pool.now id) }
+    requires texts { texts.now ≡ (K.book known.old).texts }
+    ensures answer { result ≡ ask (K.book known.old) (K.values known.old) at (tree_at pool.now id) }
+    ensures frames { frames.new ≡ frames.old }
+    ensures looks { K.looks known.new ≤ K.looks known.old + length (demanded (look (K.book known.old) (K.values known.old)) (plan texts.now at (tree_at pool.now id))) }
+    ensures book { K.book known.new ≡ K.book known.old }
+    ensures values { K.values known.new ≡ K.values known.old }
+{
+    let answer = begin(frames, pool, texts, id, at, known);
+    if let Asked::Needs(_) = answer {
+        abandon(frames);
+    }
+    answer
+}
