@@ -1,0 +1,15 @@
+pub mod Truths
+pub mod Halving
+pub mod Orders
+pub mod Keys
+pub mod Cells
+pub mod Visits
+pub mod Ascending
+pub mod Ranges
+pub mod Columns
+pub mod Readers
+pub mod Dependents
+pub mod Spans
+pub mod Reach
+pub mod Books
+pub mod Done

@@ -1,0 +1,12 @@
+use Rattle.std.proofs.Common.{◌≡◌, suc, ◌≤◌, true}
+use Rattle.support_graph.specs.Blocks.{halves, up_halves}
+use Rattle.support_graph.specs.Steps.{Sets, is_column_key}
+use Rattle.support_graph.proofs.index.set_column.Given as goal
+
+abbrev pub invariant-loop-level : goal.invariant-loop-level
+invariant-loop-level l = record {
+  low : l.low ≡ up_halves l.level l.area.top;
+  low_to : l.low ≤ 65536;
+  high : l.high ≡ halves l.level (suc l.area.bottom);
+  sets : Sets (is_column_key l.cell l.area l.col l.level) l.present true l.initial.index.keys l.index.keys;
+}

@@ -1,0 +1,4 @@
+pub mod Blocks
+pub mod Support
+pub mod Pending
+pub mod Steps
