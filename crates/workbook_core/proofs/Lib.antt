@@ -1,0 +1,11 @@
+pub mod Orders
+pub mod Lookups
+pub mod Ends
+pub mod Growth
+pub mod Told
+pub mod Counting
+pub mod Puts
+pub mod Copied
+pub mod Walked
+pub mod Books
+pub mod Fields

@@ -1,0 +1,92 @@
+-- Edits of a book, a finite map from addresses to cells.
+use Rattle.std.specs.Prelude.{◌≡◌, ℕ, ◌<◌, true, Option, Some, None, cond, List, length}
+use Rattle.cell_values.specs.declared.address.Addr.{Addr}
+use Rattle.cell_values.specs.declared.address.Area.{Area}
+use Rattle.cell_values.specs.declared.fields.Raw.{Raw}
+use Rattle.cell_values.specs.Addresses.{same_addr}
+use Rattle.cell_values.specs.Areas.{is_inside}
+use Rattle.cell_values.specs.Texts.{Texts}
+use Rattle.formula_trees.specs.Expr.{Expr}
+use Rattle.formula_trees.specs.Shifted.{shifted}
+use Rattle.formula_tokens.specs.Tokens.{with_literals}
+use Rattle.formula_tokens.specs.Words.{begins_with}
+use Rattle.formula_grammar.specs.Reading.{Means, HasFault}
+use Rattle.demand_spec.specs.Book.{Content, cell_in}
+use Rattle.demand_spec.specs.Listed.{InOrder}
+use Rattle.workbook_core.specs.declared.edits.EditFault.{EditFault}
+
+abbrev pub Cells : Type 0
+Cells = List (Addr × Content)
+
+-- one cell gets this content or none, or the cells of an area get what one cell holds
+pub data Edit : Type 0 where
+  Put : Addr → Option Content → Edit
+  Copy : Addr → Area → Edit
+
+-- what a cell gets as a copy: a formula is shifted there
+abbrev pub copied : Addr → Option Content → Option Content
+copied to (Some (Content.Formula t)) = Some (Content.Formula (shifted to t))
+copied to held = held
+
+-- what stands at an address after the edit
+abbrev pub held_after : Edit → Cells → Addr → Option Content
+held_after (Put at held) old a = cond (same_addr at a) held (cell_in old a)
+held_after (Copy from to) old a = cond (is_inside to a) (copied a (cell_in old from)) (cell_in old a)
+
+-- the edit makes the new cells of the old ones
+pub record IsApplied (edit : Edit) (old new : Cells) : Type 0 where
+  pub order : InOrder new
+  pub lookups : (a : Addr) → cell_in new a ≡ held_after edit old a
+
+-- after the edit there are more than 200,000 cells
+abbrev pub IsTooLarge : Edit → Cells → Type 0
+IsTooLarge edit old = (new : Cells) → IsApplied edit old new → 200000 < length new
+
+-- what a field puts into a cell: nothing, its value, or the tree that its formula means there
+abbrev pub Puts : List (List ℕ) → Texts → Addr → Raw → Option Content → Type 0
+Puts names ts at Raw.Nothing held = held ≡ None
+Puts names ts at (Raw.Number n) held = held ≡ Some (Content.Number n)
+Puts names ts at (Raw.Text t) held = held ≡ Some (Content.Text t)
+Puts names ts at (Raw.Bool b) held = held ≡ Some (Content.Truth b)
+Puts names ts at (Raw.Formula text) held =
+    (tree : Expr) × Means names (with_literals names ts text) at text tree × (held ≡ Some (Content.Formula tree))
+
+-- the texts with those of the field's formula
+abbrev pub with_field : List (List ℕ) → Texts → Raw → Texts
+with_field names ts (Raw.Formula text) = with_literals names ts text
+with_field names ts _ = ts
+
+-- the field is a formula with this fault
+abbrev pub FieldHasFault : List (List ℕ) → Texts → Raw → ℕ → ℕ → Type 0
+FieldHasFault names ts (Raw.Formula text) place n = HasFault names (with_literals names ts text) text place n
+FieldHasFault names ts _ place n = ⊥
+
+-- a formula begins with `=`
+abbrev pub IsField : Raw → Type 0
+IsField (Raw.Formula text) = begins_with 61 text ≡ true
+IsField _ = Unit {0}
+
+-- why a field is not put
+abbrev pub IsPutFault : List (List ℕ) → Texts → Cells → Addr → Raw → EditFault → Type 0
+IsPutFault names ts old at raw (EditFault.BadFormula place n) = FieldHasFault names ts raw place n
+IsPutFault names ts old at raw EditFault.TooManyCells =
+    (held : Option Content) × Puts names ts at raw held × IsTooLarge (Put at held) old
+IsPutFault names ts old at raw EditFault.OutOfMemory = Unit {0}
+
+-- why cells are not copied
+abbrev pub IsCopyFault : Cells → Addr → Area → EditFault → Type 0
+IsCopyFault old from to (EditFault.BadFormula place n) = ⊥
+IsCopyFault old from to EditFault.TooManyCells = IsTooLarge (Copy from to) old
+IsCopyFault old from to EditFault.OutOfMemory = Unit {0}
+
+-- it is this fault of a formula, unless memory ran out
+abbrev pub IsThisFault : ℕ → ℕ → EditFault → Type 0
+IsThisFault place n (EditFault.BadFormula p m) = (p ≡ place) × (m ≡ n)
+IsThisFault place n EditFault.TooManyCells = ⊥
+IsThisFault place n EditFault.OutOfMemory = Unit {0}
+
+-- there are too many cells, unless memory ran out
+abbrev pub IsTooMany : EditFault → Type 0
+IsTooMany (EditFault.BadFormula place n) = ⊥
+IsTooMany EditFault.TooManyCells = Unit {0}
+IsTooMany EditFault.OutOfMemory = Unit {0}

@@ -1,0 +1,5 @@
+pub mod Held
+pub mod Books
+pub mod Edits
+pub mod Faults
+pub mod Copies
