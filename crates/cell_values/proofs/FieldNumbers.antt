@@ -1,6 +1,6 @@
 -- What `parse` reads is the number of a field.
 use Rattle.std.proofs.Common.{◌≡◌, ◌≢◌, ℕ, ◌<◌, ◌≤◌, ◌^◌, ℤ, pos, neg_ℤ, Bool, true, false, cond, ◌&&◌, nat_lt, List, [], ◌∷◌, length, drop, get_or, refl, ap, sym, subst, ◌∙◌, arith, Some, None, Result, Ok, Err, Decides}
-use mir.Syntax.{Width, w64}
+use mir.Syntax.{Width, w128}
 use mir.Val.{hbits}
 use Rattle.std.proofs.lemmas.Bool.{eqb-true, eqb-false, cond-true, cond-false, and_from, and_parts, and_left, and_right, ltb-true, lt-ltb}
 use Rattle.std.proofs.lemmas.Bool.Decides.{nat_tests}
@@ -15,7 +15,7 @@ use Rattle.cell_values.specs.Fields.{signed_number, number_of_field}
 
 -- the width of a number
 abbrev pub int_width : Width
-int_width = w64
+int_width = w128
 
 own : IsNumeralModel (λ ds. all_ascii_digits ds ≡ true) (digits_value 10)
 own = numerals_by_value _ tells_all_ascii_digits

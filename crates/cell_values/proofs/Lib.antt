@@ -5,3 +5,5 @@ pub mod FieldNumbers
 pub mod FileNames
 pub mod NamesSoFar
 pub mod Naming
+pub mod Order
+pub mod Walking

@@ -1,5 +1,6 @@
 -- Addresses and their order.
 use Rattle.std.specs.Prelude.{◌≡◌, ◌<◌, ◌≤◌, ◌⊎◌, Bool, ◌&&◌, ◌==◌}
+use Rattle.cell_values.specs.declared.TheConstants.{LAST_COLUMN, LAST_ROW}
 use Rattle.cell_values.specs.declared.address.Addr.{Addr}
 
 abbrev pub same_addr : Addr → Addr → Bool
@@ -12,6 +13,6 @@ IsBefore a b = (a.sheet < b.sheet) ⊎ ((a.sheet ≡ b.sheet) × ((a.row < b.row
 -- the row and the column are those of a cell of a sheet
 pub record IsOnSheet (a : Addr) : Type 0 where
   pub row_from : 1 ≤ a.row
-  pub row_to : a.row ≤ 65536
+  pub row_to : a.row ≤ LAST_ROW
   pub col_from : 1 ≤ a.col
-  pub col_to : a.col ≤ 256
+  pub col_to : a.col ≤ LAST_COLUMN

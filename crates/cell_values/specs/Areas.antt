@@ -1,5 +1,6 @@
 -- Rectangles of cells, and their walk.
 use Rattle.std.specs.Prelude.{ℕ, zero, suc, ◌+◌, ◌-◌, ◌≤◌, Bool, ◌&&◌, ◌==◌, nat_le, List, [], ◌∷◌, map, flat_map, min, max}
+use Rattle.cell_values.specs.declared.TheConstants.{LAST_COLUMN, LAST_ROW}
 use Rattle.cell_values.specs.declared.address.Addr.{Addr}
 use Rattle.cell_values.specs.declared.address.Area.{Area}
 
@@ -12,6 +13,10 @@ between_cells a b = record {
   bottom = max a.row b.row;
   right = max a.col b.col;
 }
+
+-- the rectangle of one cell
+abbrev pub one_cell : Addr → Area
+one_cell a = record { sheet = a.sheet; top = a.row; left = a.col; bottom = a.row; right = a.col }
 
 -- `n` numbers from `first` on
 abbrev pub numbers_from : ℕ → ℕ → List ℕ
@@ -46,7 +51,7 @@ is_inside r a = (r.sheet == a.sheet) && (nat_le r.top a.row && nat_le a.row r.bo
 pub record IsArea (r : Area) : Type 0 where
   pub top_from : 1 ≤ r.top
   pub top_to : r.top ≤ r.bottom
-  pub bottom_to : r.bottom ≤ 65536
+  pub bottom_to : r.bottom ≤ LAST_ROW
   pub left_from : 1 ≤ r.left
   pub left_to : r.left ≤ r.right
-  pub right_to : r.right ≤ 256
+  pub right_to : r.right ≤ LAST_COLUMN

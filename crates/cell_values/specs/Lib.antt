@@ -5,5 +5,7 @@ pub mod Texts
 pub mod CellText
 pub mod Interned
 pub mod ShownText
+pub mod Values
+pub mod Order
 pub mod Fields
 pub mod Names

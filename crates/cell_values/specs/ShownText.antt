@@ -1,10 +1,10 @@
 -- The texts that values show.
-use Rattle.std.specs.Prelude.{ℕ, ℤ, Bool, true, false, ⊤, List, [], codes}
-use Rattle.std.specs.Fmt.{signed_decimal}
+use Rattle.std.specs.Prelude.{ℕ, ℤ, Bool, true, false, List, [], ◌++◌, codes}
+use Rattle.std.specs.Fmt.{decimal, signed_decimal}
 use Rattle.cell_values.specs.declared.values.Code.{Code}
 use Rattle.cell_values.specs.declared.values.Value.{Value}
 use Rattle.cell_values.specs.declared.values.Shown.{Shown}
-use Rattle.cell_values.specs.Texts.{Texts, text_at, IsTextOf}
+use Rattle.cell_values.specs.Texts.{Texts, text_at}
 
 -- the decimal digits, with `-` in front where the number is negative
 abbrev pub int_text : ℤ → List ℕ
@@ -28,20 +28,8 @@ value_text ts (Value.Bool b) = bool_text b
 value_text ts Value.Blank = []
 value_text ts (Value.Error c) = code_text c
 
+-- a cycle's mark tells how many cells the cycle has
 abbrev pub shown_text : Texts → Shown → List ℕ
 shown_text ts (Shown.Val v) = value_text ts v
-shown_text ts Shown.Cycle = codes "#CYCLE!"
+shown_text ts (Shown.Cycle n) = codes "#CYCLE(" ++ (decimal n ++ codes ")!")
 shown_text ts Shown.ToCycle = codes "#TOCYCLE!"
-
--- a text's number is one of these texts
-abbrev pub IsValueOf : Texts → Value → Type 0
-IsValueOf ts (Value.Number n) = ⊤
-IsValueOf ts (Value.Text t) = IsTextOf ts t
-IsValueOf ts (Value.Bool b) = ⊤
-IsValueOf ts Value.Blank = ⊤
-IsValueOf ts (Value.Error c) = ⊤
-
-abbrev pub IsShownOf : Texts → Shown → Type 0
-IsShownOf ts (Shown.Val v) = IsValueOf ts v
-IsShownOf ts Shown.Cycle = ⊤
-IsShownOf ts Shown.ToCycle = ⊤

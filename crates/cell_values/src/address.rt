@@ -1,8 +1,9 @@
 //! Where cells stand.
 
-ghost use Rattle.std.specs.Prelude.{◌≡◌, ◌≤◌, IfOk, All, string_bytes};
+ghost use Rattle.std.specs.Prelude.{◌≡◌, ◌≤◌, ◌<◌, ◌∷◌, ◌+◌, ◌*◌, length, drop, IfOk, All, string_bytes};
 ghost use Rattle.std.specs.List.{prefix_len};
 ghost use Rattle.std.specs.Char.{IsAsciiAlphabetic, is_ascii_alphabetic};
+ghost use Rattle.cell_values.specs.declared.TheConstants.{LAST_COLUMN};
 
 use crate::{LAST_COLUMN, LAST_ROW};
 use std::alloc::{AllocError, Global};
@@ -54,6 +55,115 @@ impl Addr {
     }
 }
 
+impl Area {
+    ghost use Rattle.cell_values.specs.declared.TheConstants.{LAST_COLUMN, LAST_ROW};
+    ghost use Rattle.cell_values.specs.Addresses.{IsOnSheet};
+    ghost use Rattle.cell_values.specs.Areas.{between_cells, one_cell, height, width, cell_of, walk, is_inside, IsArea};
+
+    /// The area of one cell.
+    pub fn of(at: Addr) -> Area
+        requires { IsOnSheet at }
+        ensures same { result ≡ one_cell at }
+        ensures within { IsArea result }
+    {
+        Area {
+            sheet: at.sheet,
+            top: at.row,
+            left: at.col,
+            bottom: at.row,
+            right: at.col,
+        }
+    }
+
+    /// The rectangle between two cells, on the sheet of the first one.
+    pub fn between(a: Addr, b: Addr) -> Area
+        requires first { IsOnSheet a }
+        requires second { IsOnSheet b }
+        ensures same { result ≡ between_cells a b }
+        ensures within { IsArea result }
+    {
+        Area {
+            sheet: a.sheet,
+            top: a.row.min(b.row),
+            left: a.col.min(b.col),
+            bottom: a.row.max(b.row),
+            right: a.col.max(b.col),
+        }
+    }
+
+    /// How many rows it has.
+    #[tactic(auto, unfolding(crate::specs::Areas::height))]
+    pub fn rows(&self) -> u32
+        requires { IsArea self.now }
+        ensures same { result ≡ height self.now }
+        ensures some { 0 < result }
+        ensures few { result ≤ LAST_ROW }
+    {
+        self.bottom + 1 - self.top
+    }
+
+    /// How many columns it has.
+    #[tactic(auto, unfolding(crate::specs::Areas::width))]
+    pub fn columns(&self) -> u32
+        requires { IsArea self.now }
+        ensures same { result ≡ width self.now }
+        ensures some { 0 < result }
+        ensures few { result ≤ LAST_COLUMN }
+    {
+        u32::from(self.right) + 1 - u32::from(self.left)
+    }
+
+    /// How many cells it has.
+    #[tactic(auto, using(crate::proofs::Walking::area_counted))]
+    pub fn size(&self) -> u32
+        requires { IsArea self.now }
+        ensures size { result ≡ height self.now * width self.now }
+        ensures count { result ≡ length (walk self.now) }
+        ensures some { 0 < result }
+        ensures few { result ≤ 16777216 }
+    {
+        self.rows() * self.columns()
+    }
+
+    /// The cell `i` rows below and `j` columns beside the first one.
+    #[tactic(auto, unfolding(crate::specs::Areas::height, crate::specs::Areas::width))]
+    pub fn cell(&self, i: u32, j: u32) -> Addr
+        requires area { IsArea self.now }
+        requires row { i < height self.now }
+        requires column { j < width self.now }
+        ensures { result ≡ cell_of self.now i j }
+    {
+        Addr {
+            sheet: self.sheet,
+            row: self.top + i,
+            col: self.left + j as u16,
+        }
+    }
+
+    /// The cell with this number in its walk, counted from 0.
+    pub fn nth(&self, n: u32) -> Addr
+        requires area { IsArea self.now }
+        requires within { n < length (walk self.now) }
+        ensures { drop n (walk self.now) ≡ result ∷ drop (n + 1) (walk self.now) }
+    {
+        let columns = self.columns();
+        Addr {
+            sheet: self.sheet,
+            row: self.top + n / columns,
+            col: self.left + (n % columns) as u16,
+        }
+    }
+
+    /// Whether the cell stands in it.
+    pub fn holds(&self, at: Addr) -> bool
+        ensures { result ≡ is_inside self.now at }
+    {
+        self.sheet == at.sheet
+            && (self.top <= at.row && at.row <= self.bottom)
+            && (self.left <= at.col && at.col <= self.right)
+    }
+}
+
 ghost use Rattle.cell_values.specs.CellText.{named_column, named_row, column_letters};
 
 /// How many letters a text begins with.
@@ -101,7 +211,7 @@ fn read_row(digits: &[u8]) -> Option<u32>
 #[tactic(auto, using(std::proofs::lemmas::Str::encode_ascii), unfolding(crate::specs::CellText::column_letters))]
 pub fn column_text(alloc: Global, col: u16) -> Result<String, AllocError>
     requires from { 1 ≤ col }
-    requires to { col ≤ 256 }
+    requires to { col ≤ LAST_COLUMN }
     ensures { IfOk result (λ text. string_bytes text ≡ column_letters col) }
 {
     let mut text = String::new(alloc);

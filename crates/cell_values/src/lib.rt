@@ -13,20 +13,26 @@ pub use interned::{TextId, Texts};
 pub use names::{NameFault, SheetNames};
 pub use values::{Code, Shown, Value};
 
-/// A whole number of the formula language.
-pub type Int = i64;
+/// A whole number of the formula language, of 128 bits.
+pub type Int = i128;
 
 /// The least number.
-pub const INT_MIN: Int = i64::MIN;
+pub const INT_MIN: Int = i128::MIN;
 
 /// The greatest number.
-pub const INT_MAX: Int = i64::MAX;
+pub const INT_MAX: Int = i128::MAX;
 
 /// The last column, IV. Columns count from 1.
 pub const LAST_COLUMN: u16 = 256;
 
 /// The last row. Rows count from 1.
 pub const LAST_ROW: u32 = 65_536;
+
+/// The most cells of a range in a formula, and of the area of a copy.
+pub const MAX_RANGE_CELLS: u32 = 65_536;
+
+/// The most cells of a book that are not empty, all sheets together.
+pub const MAX_BOOK_CELLS: u32 = 200_000;
 
 #[cfg(test)]
 mod tests;

@@ -1,6 +1,6 @@
 //! What the contracts leave open: that calls succeed with ample memory, and rows worked out by hand.
 
-use crate::{Addr, FieldText, Raw, SheetNames, Shown, Texts, Value};
+use crate::{Addr, Area, FieldText, INT_MIN, Raw, SheetNames, Shown, Texts, Value};
 use std::test::Fail;
 
 #[test]
@@ -40,6 +40,10 @@ fn reads_fields_and_shows_values(rt: HostRuntime) -> Result<(), Fail> {
     assert_eq!(rt; texts.intern("x")?.0, 0);
     let number = Shown::Val(Value::Number(-3)).show_text(alloc, &texts)?;
     assert_eq!(rt; number.as_str(), "-3");
+    assert_eq!(rt;
+        Shown::Cycle(12).show_text(alloc, &texts)?.as_str(),
+        "#CYCLE(12)!"
+    );
     assert_eq!(rt; FieldText::new(alloc, "=1")?.as_str(), "=1");
     let Raw::Text(quoted) = Raw::read(alloc, "'7", &mut texts)? else {
         assert!(rt; false, "a quote makes a text");
@@ -48,6 +52,14 @@ fn reads_fields_and_shows_values(rt: HostRuntime) -> Result<(), Fail> {
     assert_eq!(rt; texts.get(quoted), "7");
     assert!(rt; matches!(Raw::read(alloc, "-0", &mut texts)?, Raw::Number(0)));
     assert!(rt; matches!(Raw::read(alloc, "1.5", &mut texts)?, Raw::Text(id) if id.0 == 2));
+    let least = Raw::read(
+        alloc,
+        "-170141183460469231731687303715884105728",
+        &mut texts,
+    )?;
+    assert!(rt; matches!(least, Raw::Number(INT_MIN)));
+    let above = Raw::read(alloc, "170141183460469231731687303715884105728", &mut texts)?;
+    assert!(rt; matches!(above, Raw::Text(id) if id.0 == 3));
     Ok(())
 }
 
@@ -59,5 +71,17 @@ fn names_sheets(rt: HostRuntime) -> Result<(), Fail> {
     assert_eq!(rt; names.find("my plan"), Some(0));
     assert_eq!(rt; names.find("b"), None);
     assert_eq!(rt; names.prefix(alloc, 0)?.as_str(), "'my plan'!");
+    Ok(())
+}
+
+#[test]
+fn walks_areas(rt: HostRuntime) -> Result<(), Fail> {
+    let corner = |row, col| Addr { sheet: 0, row, col };
+    let area = Area::between(corner(5, 2), corner(3, 4));
+    assert_eq!(rt; (area.rows(), area.columns(), area.size()), (3, 3, 9));
+    assert_eq!(rt; area.cell(0, 2), corner(3, 4));
+    assert_eq!(rt; area.nth(5), corner(4, 4));
+    assert!(rt; area.holds(corner(5, 4)) && !area.holds(corner(6, 4)));
+    assert_eq!(rt; Area::of(corner(5, 2)).size(), 1);
     Ok(())
 }

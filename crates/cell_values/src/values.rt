@@ -35,8 +35,9 @@ pub enum Value {
 #[derive(Clone, Copy, Debug, PartialEq, Eq)]
 pub enum Shown {
     Val(Value),
-    /// Following first unfinished demands from the cell returns to it.
-    Cycle,
+    /// Following first unfinished demands from the cell returns to it, first after this many demands: the
+    /// number of cells of the cycle.
+    Cycle(u32),
     /// The cell's first unfinished demands lead into a cycle that it is not on.
     ToCycle,
 }
@@ -65,7 +66,26 @@ impl fmt::Display for Code {
 }
 
 impl Value {
-    ghost use Rattle.cell_values.specs.ShownText.{value_text, IsValueOf};
+    ghost use Rattle.cell_values.specs.ShownText.{value_text};
+    ghost use Rattle.cell_values.specs.Values.{as_number, is_error, IsValueOf};
+
+    /// Whether it is an error.
+    pub fn is_error(&self) -> bool
+        ensures { result ≡ is_error self.now }
+    {
+        matches!(self, Value::Error(_))
+    }
+
+    /// What arithmetic takes it as: a Number as it is, and Blank as 0. Other values have no number.
+    pub fn as_number(&self) -> Option<Int>
+        ensures { result ≡ as_number self.now }
+    {
+        match self {
+            Value::Number(number) => Some(*number),
+            Value::Blank => Some(0),
+            Value::Text(_) | Value::Bool(_) | Value::Error(_) => None,
+        }
+    }
 
     /// The text that a cell with this value shows.
     pub fn show_text(&self, alloc: Global, texts: &Texts) -> Result<String, AllocError>
@@ -84,7 +104,8 @@ impl Value {
 }
 
 impl Shown {
-    ghost use Rattle.cell_values.specs.ShownText.{shown_text, IsShownOf};
+    ghost use Rattle.cell_values.specs.ShownText.{shown_text};
+    ghost use Rattle.cell_values.specs.Values.{IsShownOf};
 
     /// The text that the cell shows.
     pub fn show_text(&self, alloc: Global, texts: &Texts) -> Result<String, AllocError>
@@ -93,7 +114,7 @@ impl Shown {
     {
         match self {
             Shown::Val(value) => value.show_text(alloc, texts),
-            Shown::Cycle => String::from_str(alloc, "#CYCLE!"),
+            Shown::Cycle(length) => format!(in alloc; "#CYCLE({length})!"),
             Shown::ToCycle => String::from_str(alloc, "#TOCYCLE!"),
         }
     }
