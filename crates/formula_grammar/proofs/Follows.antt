@@ -5,7 +5,9 @@ use Rattle.std.proofs.lemmas.Bool.Decides.{nat_tests}
 use Rattle.formula_trees.specs.declared.tree.Fun.{Fun}
 use Rattle.formula_trees.specs.declared.tree.Op.{Op}
 use Rattle.formula_trees.specs.declared.tree.Sign.{Sign}
-use Rattle.formula_trees.specs.Functions.{Kind, Plain, Place, Many, Exact, least_arguments, enough, takes_more}
+use Rattle.formula_trees.specs.declared.functions.Kind.{Kind}
+use Rattle.formula_trees.specs.declared.functions.Kind.TheVariants.{Plain, Place, Many, Exact}
+use Rattle.formula_trees.specs.Functions.{signature_of, enough, takes_more}
 use Rattle.formula_trees.specs.Sound.{op_level}
 use Rattle.formula_tokens.specs.declared.token.Literal.{Literal}
 use Rattle.formula_tokens.specs.declared.token.Token.{Token}
@@ -364,8 +366,8 @@ module _ (strict : Bool) where
   one_more f n m (inl e) = let x = some_argument (kind_at f (suc n)) in inr (last x.0, counted_by strict _ m, (x.1, x.2, e))
   one_more f n m (inr (xs, more', fit)) = let x = some_argument (kind_at f (suc n)) in inr (more x.0 xs, counted_by strict _ m, (x.1, x.2, more', fit))
 
-  fill : (f : Fun) (k n : ℕ) → least_arguments f ≤ suc n + k → Filled (Some f) n
-  fill f zero n h = inl (counted_by strict (enough f (suc n)) (le-leb (least_arguments f) (suc n) (omega (arith, h))))
+  fill : (f : Fun) (k n : ℕ) → (signature_of f).least ≤ suc n + k → Filled (Some f) n
+  fill f zero n h = inl (counted_by strict (enough f (suc n)) (le-leb ((signature_of f).least) (suc n) (omega (arith, h))))
   fill f (suc k) n h = by_enough (enough f (suc n)) refl (fill f k (suc n) (omega (arith, h)))
     where
       by_enough : (b : Bool) → enough f (suc n) ≡ b → Filled (Some f) (suc n) → Filled (Some f) n
@@ -373,7 +375,7 @@ module _ (strict : Bool) where
       by_enough false e r = one_more (Some f) n (room f (suc n) e) r
 
   filled : (f : Option Fun) (n : ℕ) → Filled f n
-  filled (Some f) n = fill f (least_arguments f) n (omega arith)
+  filled (Some f) n = fill f ((signature_of f).least) n (omega arith)
   filled None n = inl (counted_by strict true refl)
 
   closing : (fs : List Frame) → (u : List Token) × Closes strict fs u

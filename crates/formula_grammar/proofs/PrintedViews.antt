@@ -7,7 +7,7 @@ use Rattle.std.specs.Str.{all_ascii_digits}
 use Rattle.std.specs.Str.Parse.{digits_value}
 use Rattle.std.proofs.lemmas.Bool.{cond-true, and_parts}
 use Rattle.std.proofs.lemmas.Bool.Decides.{nat_tests}
-use Rattle.std.proofs.lemmas.Fmt.{digits_decimal, digits_value-decimal, decimal_nonempty}
+use Rattle.std.proofs.lemmas.Fmt.{decimal_is_IsNumeral_wide}
 use Rattle.std.proofs.lemmas.Int.{ints}
 use Rattle.std.proofs.lemmas.Str.Parse.{IsNumeralModel, numerals_by_value, tells_all_ascii_digits}
 use Rattle.cell_values.specs.declared.address.Addr.{Addr}
@@ -129,7 +129,7 @@ digits_open : (ds : List ℕ) → all_ascii_digits ds ≡ true → 0 < length ds
 digits_open [] h some = absurd (omega arith)
 digits_open (d ∷ ds) h some = digit_opens d ds (and_parts (is_ascii_digit d) (all_ascii_digits ds) h).0
 
-small_number : (n : ℕ) → fits (pos n) ≡ true → n < 2 ^ 64
+small_number : (n : ℕ) → fits (pos n) ≡ true → n < 10 ^ 64
 small_number n h = grind (arith, ints, nat_tests)
 
 abbrev LiteralPart : List (List ℕ) → Texts → Type 0 → Expr → List ℕ → Literal → Type 0
@@ -139,10 +139,10 @@ pub number_part : (names : List (List ℕ)) (ts : Texts) (F : Type 0) → F → 
 number_part names ts F f (negsuc n) h = cc
 number_part names ts F f (pos n) h =
     let fit = (and_parts (int_le (pos 0) (pos n)) (fits (pos n)) h).1 in
-    let below = small_number n fit in
-    let digits = digits_decimal own n below in
-    let some = decimal_nonempty n below in
-    let value = digits_value-decimal own n below in
+    let numeral = decimal_is_IsNumeral_wide n (small_number n fit) in
+    let digits = own.from (decimal n) numeral.0.1 in
+    let some = numeral.0.0 in
+    let value = numeral.1 in
     let same : fits (pos (digits_value 10 (decimal n))) ≡ true = ap (λ m. fits (pos m)) value ∙ fit in
     one names ts (Number (pos n)) (decimal n) F (Token.Literal (Literal.Number (pos n))) (Number (pos n)) f refl
     (λ rest c. number_tokens names ts (decimal n) rest digits some same c ∙ ap (λ m. Token.Literal (Literal.Number (pos m)) ∷ tokens_in names ts 0 false rest) value)

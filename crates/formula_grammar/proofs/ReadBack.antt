@@ -10,7 +10,9 @@ use Rattle.cell_values.specs.Texts.{Texts}
 use Rattle.formula_trees.specs.declared.tree.Fun.{Fun}
 use Rattle.formula_trees.specs.declared.tree.Op.{Op}
 use Rattle.formula_trees.specs.Expr.{Expr, Exprs, Number, Text, Truth, Ref, Range, RefError, Unary, Binary, Call, End, More}
-use Rattle.formula_trees.specs.Functions.{Kind, Plain, Place, Many, Exact, kind_of, enough, takes_more}
+use Rattle.formula_trees.specs.declared.functions.Kind.{Kind}
+use Rattle.formula_trees.specs.declared.functions.Kind.TheVariants.{Plain, Place, Many, Exact}
+use Rattle.formula_trees.specs.Functions.{kind_of, enough, takes_more}
 use Rattle.formula_trees.specs.SheetNumbers.{SheetsBelow, AllSheetsBelow}
 use Rattle.formula_trees.specs.Sound.{IsLiteral, IsExpression, HasArguments, OfKind, nodes, nodes_of, levels, levels_of, level_of, op_level}
 use Rattle.formula_trees.specs.TextNumbers.{TextsBelow, AllTextsBelow}

@@ -6,16 +6,16 @@ use Rattle.formula_trees.specs.declared.tree.Op.{Op}
 use Rattle.formula_trees.specs.declared.tree.Sign.{Sign}
 use Rattle.formula_trees.specs.declared.tree.Tree.{Tree}
 use Rattle.formula_trees.specs.Expr.{Expr, Exprs, expr_of, Ref, Range, Unary, Binary, Call, End, More}
-use Rattle.formula_trees.specs.Functions.{Kind, Plain, Place, Many, Exact, kind_of, enough, takes_more}
+use Rattle.formula_trees.specs.declared.functions.Kind.{Kind}
+use Rattle.formula_trees.specs.declared.functions.Kind.TheVariants.{Plain, Place, Many, Exact}
+use Rattle.formula_trees.specs.Functions.{kind_of, enough, takes_more}
 use Rattle.formula_trees.specs.Sound.{op_level}
 use Rattle.formula_tokens.specs.declared.token.Literal.{Literal}
 use Rattle.formula_tokens.specs.declared.token.Spot.{Spot}
 use Rattle.formula_tokens.specs.declared.token.Token.{Token}
 use Rattle.formula_tokens.specs.declared.token.Word.{Word}
-use Rattle.formula_grammar.specs.declared.kinds.Kind as K
 use Rattle.formula_grammar.specs.declared.reader.ReadError.{ReadError}
 use Rattle.formula_grammar.specs.declared.reader.ReadError.TheVariants.{Bad}
-use Rattle.formula_grammar.specs.Kinds.{kind_named}
 use Rattle.formula_grammar.specs.Fault.{own_fault, named_fault, tokens_of}
 use Rattle.formula_grammar.specs.Syntax.{quiet, node, kind_at, is_alone, sign_op, target_meaning, target_spelling, only_sum, compare, only_term, add, only_signed, multiply, plain, signed, literal, reference, group, call_none, call, last, more, value, cell, area, lone, spelling, sums_spelling, term_spelling, signed_spelling, arguments_spelling, argument_spelling, ArgumentsFit, literal_meaning, reference_at, argument_meaning}
 use Rattle.formula_grammar.specs.Steps.{Frame, in_group, in_call, State, operand, operator, named, opened, argument, sheet, corner, colon, ended, landed, if_counted, on_lone, on_sign, move, mark_at, open_levels, is_bad, checked, within, step, Outcome, fault, run, run_on, at_end, refused, Move}
@@ -104,14 +104,14 @@ pub fails_misfit : (old : Rest) (e : ReadError) (s : State) → e ≡ Bad (next_
 fails_misfit old e s b h = fails_stopped old e (misfit (next_token old)) s b (misfits old.nodes s (next_token old) h)
 
 -- literals that are arguments by themselves
-alone_move : (k : K.Kind) (l : Literal) (fs : List Frame) → (k ≡ K.Kind.Place) ⊎ (k ≡ K.Kind.Exact) → is_alone (kind_named k) l ≡ true → move true (argument (kind_named k) fs) (Token.Literal l) ≡ Ok (ended fs)
-alone_move K.Kind.Plain l fs k a = cc
-alone_move K.Kind.Many l fs k a = cc
-alone_move K.Kind.Place l fs k a = ap (λ b. on_lone b fs) a
-alone_move K.Kind.Exact l fs k a = ap (λ b. on_lone b fs) a
+alone_move : (k : Kind) (l : Literal) (fs : List Frame) → (k ≡ Place) ⊎ (k ≡ Exact) → is_alone k l ≡ true → move true (argument k fs) (Token.Literal l) ≡ Ok (ended fs)
+alone_move Plain l fs k a = cc
+alone_move Many l fs k a = cc
+alone_move Place l fs k a = ap (λ b. on_lone b fs) a
+alone_move Exact l fs k a = ap (λ b. on_lone b fs) a
 
-pub fails_lone : (k : K.Kind) (l : Literal) (old : Rest) (e : ReadError) → next_token old ≡ Token.Literal l → (k ≡ K.Kind.Place) ⊎ (k ≡ K.Kind.Exact) → is_alone (kind_named k) l ≡ true → FailsNode old e → FailsAlone (kind_named k) old e
-fails_lone k l old e h kind a f fs = fails_at (Token.Literal l) old e (argument (kind_named k) fs) (ended fs) h f (alone_move k l fs kind a) (omega arith) refl (omega arith)
+pub fails_lone : (k : Kind) (l : Literal) (old : Rest) (e : ReadError) → next_token old ≡ Token.Literal l → (k ≡ Place) ⊎ (k ≡ Exact) → is_alone k l ≡ true → FailsNode old e → FailsAlone k old e
+fails_lone k l old e h kind a f fs = fails_at (Token.Literal l) old e (argument k fs) (ended fs) h f (alone_move k l fs kind a) (omega arith) refl (omega arith)
 
 -- references
 pub fails_sheet_word : (w : Word) (old : Rest) (e : ReadError) → next_token old ≡ Token.SheetReference w → FailsNode old e → FailsSheetWord old e
@@ -629,35 +629,35 @@ argument_lone own Place d l old new x a = record { part = lone l; fits = tt; kin
 argument_lone own Exact d l old new x a = record { part = lone l; fits = tt; kind = a.alone; spelled = a.spelled; means = a.means; runs = λ fs h. a.runs fs }
 
 -- the same at the code's kinds
-at_kind_ok : (own : Addr) (k : K.Kind) (j : Kind) (d : ℕ) (old new : Rest) (r : Result Tree ReadError) → j ≡ kind_named k → IfOk r (λ tree. ReadsArgument own j d old new (expr_of tree)) → IfOk r (λ tree. ReadsArgument own (kind_named k) d old new (expr_of tree))
+at_kind_ok : (own : Addr) (k : Kind) (j : Kind) (d : ℕ) (old new : Rest) (r : Result Tree ReadError) → j ≡ k → IfOk r (λ tree. ReadsArgument own j d old new (expr_of tree)) → IfOk r (λ tree. ReadsArgument own k d old new (expr_of tree))
 at_kind_ok own k j d old new r e a = subst (λ i. IfOk r (λ tree. ReadsArgument own i d old new (expr_of tree))) e a
 
-pub argument_value_ok : (own : Addr) (k : K.Kind) (d : ℕ) (old new : Rest) (r : Result Tree ReadError) → Plain ≡ kind_named k → OnOk r (token_level (next_token new) ≡ 0) → IfOk r (λ tree. ReadsExpression own d old new (expr_of tree)) → IfOk r (λ tree. ReadsArgument own (kind_named k) d old new (expr_of tree))
+pub argument_value_ok : (own : Addr) (k : Kind) (d : ℕ) (old new : Rest) (r : Result Tree ReadError) → Plain ≡ k → OnOk r (token_level (next_token new) ≡ 0) → IfOk r (λ tree. ReadsExpression own d old new (expr_of tree)) → IfOk r (λ tree. ReadsArgument own k d old new (expr_of tree))
 argument_value_ok own k d old new (Ok tree) e h a = at_kind_ok own k Plain d old new (Ok tree) e (argument_value own d old new (expr_of tree) h a)
 argument_value_ok own k d old new (Err er) e h a = tt
 
-pub argument_many_ok : (own : Addr) (k : K.Kind) (d : ℕ) (old new : Rest) (r : Result Tree ReadError) → Many ≡ kind_named k → range_ahead (tokens_left old) ≡ false → OnOk r (token_level (next_token new) ≡ 0) → IfOk r (λ tree. ReadsExpression own d old new (expr_of tree)) → IfOk r (λ tree. ReadsArgument own (kind_named k) d old new (expr_of tree))
+pub argument_many_ok : (own : Addr) (k : Kind) (d : ℕ) (old new : Rest) (r : Result Tree ReadError) → Many ≡ k → range_ahead (tokens_left old) ≡ false → OnOk r (token_level (next_token new) ≡ 0) → IfOk r (λ tree. ReadsExpression own d old new (expr_of tree)) → IfOk r (λ tree. ReadsArgument own k d old new (expr_of tree))
 argument_many_ok own k d old new (Ok tree) e n h a = at_kind_ok own k Many d old new (Ok tree) e (argument_many own d old new (expr_of tree) n h a)
 argument_many_ok own k d old new (Err er) e n h a = tt
 
-pub argument_alone_ok : (own : Addr) (k : K.Kind) (j : Kind) (d : ℕ) (old new : Rest) (r : Result Tree ReadError) → j ≡ kind_named k → IfOk r (λ tree. ReadsAlone own j old new (expr_of tree)) → IfOk r (λ tree. ReadsArgument own (kind_named k) d old new (expr_of tree))
+pub argument_alone_ok : (own : Addr) (k : Kind) (j : Kind) (d : ℕ) (old new : Rest) (r : Result Tree ReadError) → j ≡ k → IfOk r (λ tree. ReadsAlone own j old new (expr_of tree)) → IfOk r (λ tree. ReadsArgument own k d old new (expr_of tree))
 argument_alone_ok own k j d old new r e a = at_kind_ok own k j d old new r e (ok_of r (ReadsAlone own j old new) (ReadsArgument own j d old new) (argument_alone own j d old new) a)
 
-pub argument_lone_ok : (own : Addr) (k : K.Kind) (d : ℕ) (l : Literal) (old new : Rest) (r : Result Tree ReadError) → IfOk r (λ tree. ReadsLone (kind_named k) l old new (expr_of tree)) → IfOk r (λ tree. ReadsArgument own (kind_named k) d old new (expr_of tree))
-argument_lone_ok own k d l old new r a = ok_of r (ReadsLone (kind_named k) l old new) (ReadsArgument own (kind_named k) d old new) (argument_lone own (kind_named k) d l old new) a
+pub argument_lone_ok : (own : Addr) (k : Kind) (d : ℕ) (l : Literal) (old new : Rest) (r : Result Tree ReadError) → IfOk r (λ tree. ReadsLone k l old new (expr_of tree)) → IfOk r (λ tree. ReadsArgument own k d old new (expr_of tree))
+argument_lone_ok own k d l old new r a = ok_of r (ReadsLone k l old new) (ReadsArgument own k d old new) (argument_lone own k d l old new) a
 
-pub fails_alone : (k : K.Kind) (j : Kind) (d : ℕ) (old : Rest) (r : Result Tree ReadError) → j ≡ kind_named k → IfErr r (λ e. FailsAlone j old e) → IfErr r (λ e. FailsArgument (kind_named k) d old e)
+pub fails_alone : (k : Kind) (j : Kind) (d : ℕ) (old : Rest) (r : Result Tree ReadError) → j ≡ k → IfErr r (λ e. FailsAlone j old e) → IfErr r (λ e. FailsArgument k d old e)
 fails_alone k j d old r e a = subst (λ i. IfErr r (λ er. FailsArgument i d old er)) e (err_of r (FailsAlone j old) (FailsArgument j d old) (λ er f fs h. f fs) a)
 
-pub fails_value : (k : K.Kind) (d : ℕ) (old : Rest) (r : Result Tree ReadError) → Plain ≡ kind_named k → IfErr r (λ e. FailsOperand d old e) → IfErr r (λ e. FailsArgument (kind_named k) d old e)
+pub fails_value : (k : Kind) (d : ℕ) (old : Rest) (r : Result Tree ReadError) → Plain ≡ k → IfErr r (λ e. FailsOperand d old e) → IfErr r (λ e. FailsArgument k d old e)
 fails_value k d old r e a = subst (λ i. IfErr r (λ er. FailsArgument i d old er)) e (err_of r (FailsOperand d old) (FailsArgument Plain d old) (λ er f fs h. fails_by _ _ er (run_value old.spots old.end old.nodes fs) (f fs h)) a)
 
-pub fails_many_value : (k : K.Kind) (d : ℕ) (old : Rest) (r : Result Tree ReadError) → Many ≡ kind_named k → range_ahead (tokens_left old) ≡ false → IfErr r (λ e. FailsOperand d old e) → IfErr r (λ e. FailsArgument (kind_named k) d old e)
+pub fails_many_value : (k : Kind) (d : ℕ) (old : Rest) (r : Result Tree ReadError) → Many ≡ k → range_ahead (tokens_left old) ≡ false → IfErr r (λ e. FailsOperand d old e) → IfErr r (λ e. FailsArgument k d old e)
 fails_many_value k d old r e n a = subst (λ i. IfErr r (λ er. FailsArgument i d old er)) e (err_of r (FailsOperand d old) (FailsArgument Many d old) (λ er f fs h. fails_by _ _ er (run_many old.spots old.end old.nodes fs n) (f fs h)) a)
 
 exact_stuck : (fs : List Frame) (t : Token) → ((l : Literal) → t ≢ Token.Literal l) → move true (argument Exact fs) t ≡ Err 2
 exact_stuck fs (Token.Literal l) h = absurd (h l refl)
 exact_stuck fs t h = refl
 
-pub fails_exact : (k : K.Kind) (d : ℕ) (old : Rest) (er : ReadError) → Exact ≡ kind_named k → ((l : Literal) → next_token old ≢ Token.Literal l) → er ≡ Bad (next_place old) (misfit (next_token old)) → FailsArgument (kind_named k) d old er
+pub fails_exact : (k : Kind) (d : ℕ) (old : Rest) (er : ReadError) → Exact ≡ k → ((l : Literal) → next_token old ≢ Token.Literal l) → er ≡ Bad (next_place old) (misfit (next_token old)) → FailsArgument k d old er
 fails_exact k d old er e h b = subst (λ i. FailsArgument i d old er) e (λ fs j. fails_misfit old er (argument Exact fs) b (exact_stuck fs (next_token old) h))

@@ -11,7 +11,9 @@ use Rattle.formula_trees.specs.declared.tree.Fun.{Fun}
 use Rattle.formula_trees.specs.declared.tree.Op.{Op}
 use Rattle.formula_trees.specs.declared.tree.Sign.{Sign}
 use Rattle.formula_trees.specs.Expr.{Expr, Exprs, Number, Range, Unary, Binary, Call}
-use Rattle.formula_trees.specs.Functions.{Kind, Plain, Place, Many, Exact, kind_of, takes_more}
+use Rattle.formula_trees.specs.declared.functions.Kind.{Kind}
+use Rattle.formula_trees.specs.declared.functions.Kind.TheVariants.{Plain, Place, Many, Exact}
+use Rattle.formula_trees.specs.Functions.{kind_of, takes_more}
 use Rattle.formula_trees.specs.References.{resolve, area_of, area_between, cell_at, up_to, part_at}
 use Rattle.formula_trees.specs.Sound.{IsRange, IsExact, IsPlace, RangeOr, OfKind, IsExpression, HasArguments, nodes, nodes_of, op_level, level_of, in_parentheses, levels, levels_of, IsSound}
 use Rattle.formula_tokens.specs.declared.token.Corner.{Corner}

@@ -5,7 +5,8 @@ use Rattle.std.specs.Prelude.{take, zero, pos, int_le, ◌&&◌, cond}
 use Rattle.cell_values.specs.Numbers.{fits}
 use Rattle.formula_trees.specs.declared.tree.Fun.{Fun}
 use Rattle.formula_trees.specs.declared.tree.Sign.{Sign}
-use Rattle.formula_trees.specs.Functions.{Kind, Plain, Place, Many, Exact}
+use Rattle.formula_trees.specs.declared.functions.Kind.{Kind}
+use Rattle.formula_trees.specs.declared.functions.Kind.TheVariants.{Plain, Place, Many, Exact}
 use Rattle.formula_tokens.specs.declared.token.Literal.{Literal}
 use Rattle.formula_tokens.specs.declared.token.Spot.{Spot}
 use Rattle.formula_tokens.specs.declared.token.Token.{Token}

@@ -2,7 +2,6 @@ pub mod Syntax
 pub mod Fault
 pub mod Steps
 pub mod Rest
-pub mod Kinds
 pub mod Parts
 pub mod Faulty
 pub mod Laws

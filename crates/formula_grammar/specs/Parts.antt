@@ -3,7 +3,7 @@ use Rattle.std.specs.Prelude.{◌≡◌, ℕ, suc, ◌+◌, ◌≤◌, List, ◌
 use Rattle.cell_values.specs.declared.address.Addr.{Addr}
 use Rattle.formula_trees.specs.declared.tree.Fun.{Fun}
 use Rattle.formula_trees.specs.Expr.{Expr, Exprs, Range}
-use Rattle.formula_trees.specs.Functions.{Kind}
+use Rattle.formula_trees.specs.declared.functions.Kind.{Kind}
 use Rattle.formula_tokens.specs.declared.token.Literal.{Literal}
 use Rattle.formula_tokens.specs.declared.token.Token.{Token}
 use Rattle.formula_tokens.specs.declared.token.Word.{Word}

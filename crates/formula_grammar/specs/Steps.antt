@@ -3,7 +3,8 @@ use Rattle.std.specs.Prelude.{Option, Some, None, ◌-◌, ℕ, zero, suc, ◌+�
 use Rattle.formula_trees.specs.declared.tree.Fun.{Fun}
 use Rattle.formula_trees.specs.declared.tree.Op.{Op}
 use Rattle.formula_trees.specs.declared.tree.Sign.{Sign}
-use Rattle.formula_trees.specs.Functions.{Kind, Plain, Place, Many, Exact}
+use Rattle.formula_trees.specs.declared.functions.Kind.{Kind}
+use Rattle.formula_trees.specs.declared.functions.Kind.TheVariants.{Plain, Place, Many, Exact}
 use Rattle.formula_tokens.specs.declared.token.Spot.{Spot}
 use Rattle.formula_tokens.specs.declared.token.Token.{Token}
 use Rattle.formula_tokens.specs.declared.token.Word.{Word}

@@ -8,13 +8,10 @@ ghost use Rattle.formula_grammar.specs.Fault.{is_inside, own_fault, named_fault,
 ghost use Rattle.formula_grammar.specs.Rest.{misfit, token_level, sign_token};
 ghost use Rattle.formula_grammar.specs.Syntax.{cells_between, length_between, literal_meaning, part, reference_at};
 
-use crate::levels::op_level;
-use cell_values::Addr;
+use cell_values::{Addr, LAST_COLUMN, LAST_ROW, MAX_RANGE_CELLS};
 use formula_tokens::{Coordinate, Corner, Literal, Token, Word};
+use formula_trees::levels::op_level;
 use formula_trees::{Op, Part, Reference, Sign, Tree};
-
-/// The most cells of a range.
-const MAX_CELLS: u64 = 65536;
 
 /// The number of the line that speaks of a token by itself, or 0.
 pub fn own_fault(token: Token) -> u8
@@ -76,9 +73,9 @@ fn is_inside(corner: Corner) -> bool
     ensures { result ≡ is_inside corner }
 {
     1 <= corner.col.number
-        && corner.col.number <= 256
+        && corner.col.number <= u32::from(LAST_COLUMN)
         && 1 <= corner.row.number
-        && corner.row.number <= 65536
+        && corner.row.number <= LAST_ROW
 }
 
 /// The fault of a token that cannot stand where it is.
@@ -139,7 +136,7 @@ pub fn is_too_large(first: Word, second: Word) -> bool
     };
     let rows = length_between(a.row.number, b.row.number);
     let cols = length_between(a.col.number, b.col.number);
-    rows.saturating_mul(cols) > MAX_CELLS
+    rows.saturating_mul(cols) > u64::from(MAX_RANGE_CELLS)
 }
 
 /// How many numbers there are from one to the other.

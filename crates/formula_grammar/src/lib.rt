@@ -4,7 +4,6 @@
 mod faults;
 mod kinds;
 pub mod laws;
-mod levels;
 pub mod parser;
 pub mod print;
 pub mod read;

@@ -8,9 +8,9 @@ ghost use Rattle.formula_trees.specs.Sound.{level_of};
 ghost use Rattle.formula_trees.specs.TextNumbers.{TextsBelow, AllTextsBelow};
 ghost use Rattle.formula_grammar.specs.Printed.{printed, doubled, quoted, sign_text, op_text, dollar, corner_text, prefix_of, reference_text, enclosed, text_of, arguments_text, further_text};
 
-use crate::levels::op_level;
 use cell_values::{Addr, Int, SheetNames, Texts, column_text};
 use formula_tokens::function_name;
+use formula_trees::levels::{SIGN_LEVEL, level_of, op_level};
 use formula_trees::{Args, Op, Part, Reference, Sign, Tree, resolve};
 use std::alloc::{AllocError, Global};
 use std::marker::Model;
@@ -66,7 +66,7 @@ impl<'a> Page<'a> {
             Tree::RefError => out.push_str("#REF!"),
             Tree::Unary(sign, a) => {
                 out.push_str(sign_text(*sign))?;
-                self.write_enclosed(alloc, 4, a, out)
+                self.write_enclosed(alloc, SIGN_LEVEL, a, out)
             }
             Tree::Binary(op, a, b) => {
                 self.write_enclosed(alloc, op_level(*op), a, out)?;
@@ -263,16 +263,5 @@ fn dollar(part: Part) -> &'static str
     match part {
         Part::At(_) => "$",
         Part::By(_) => "",
-    }
-}
-
-/// The level of a tree's root: an operator's, 4 at a sign, 5 at all others.
-fn level_of(tree: &Tree) -> u8
-    ensures { result ≡ level_of (expr_of tree.now) }
-{
-    match tree {
-        Tree::Unary(_, _) => 4,
-        Tree::Binary(op, _, _) => op_level(*op),
-        _ => 5,
     }
 }

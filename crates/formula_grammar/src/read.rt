@@ -14,11 +14,8 @@ ghost use Rattle.formula_grammar.specs.Reading.{Means, HasFault, IsFaultOf, IsTh
 use crate::parser::{FormulaFault, read_spots};
 use cell_values::{Addr, SheetNames, Texts};
 use formula_tokens::read_tokens;
-use formula_trees::Tree;
+use formula_trees::{MAX_FORMULA_BYTES, Tree};
 use std::alloc::Global;
-
-/// The most bytes of a formula.
-const MAX_BYTES: usize = 1024;
 
 /// Reads the formula of the cell `at`: its tree, or the place and number of its first fault. The texts of its
 /// literals are interned in order. After a fault the texts may hold more entries than before.
@@ -47,7 +44,7 @@ pub fn read_formula(
     ensures known_texts { IfOk result (λ tree. TextsBelow (λ i. i < length texts.new) (expr_of tree)) }
     ensures known_sheets { IfOk result (λ tree. SheetsBelow (length sheets.now) (expr_of tree)) }
 {
-    if text.len() > MAX_BYTES {
+    if text.len() > MAX_FORMULA_BYTES {
         return Err(FormulaFault::Bad {
             place: 0,
             number: 7,

@@ -3,8 +3,7 @@
 ghost use Rattle.std.specs.Prelude.{◌≡◌, ◌≢◌, ◌<◌, ◌≤◌, ◌+◌, ◌^◌, ◌⊎◌, ℕ, Some, IfOk, IfErr, OnOk, IsTrue, ◌↔◌, [], true, false, None, length};
 ghost use Rattle.cell_values.specs.Addresses.{IsOnSheet};
 ghost use Rattle.formula_trees.specs.Expr.{Binary, expr_of, exprs_of};
-ghost use Rattle.formula_trees.specs.Functions.{Place, Many};
-ghost use Rattle.formula_grammar.specs.Kinds.{kind_named};
+ghost use Rattle.formula_trees.specs.declared.functions.Kind.TheVariants.{Place, Many};
 ghost use Rattle.formula_grammar.specs.Fault.{Reads, own_fault, named_fault, corner_fault, tokens_of};
 ghost use Rattle.formula_grammar.specs.Steps.{operand, run};
 ghost use Rattle.formula_grammar.specs.Rest.{next_token, next_place, behind_next, tokens_left, misfit, token_level, sign_token, begins_target, begins_colon, range_ahead, sheet_range_ahead};
@@ -13,18 +12,15 @@ ghost use Rattle.formula_grammar.specs.Parts.{Fails, FailsNode, FailsOperand, Fa
 use crate::faults::{
     is_too_large, literal_tree, misfit, named_fault, operator_at, own_fault, reference_at, sign_at,
 };
-use crate::kinds::{Kind, are_enough, is_alone, kind_of, may_go_on};
+use crate::kinds::is_alone;
 use cell_values::Addr;
 use formula_tokens::{Literal, Spot, Token, Word};
-use formula_trees::{Args, Fun, Op, Tree};
+use formula_trees::levels::{COMPARISON_LEVEL, SUM_LEVEL, TERM_LEVEL};
+use formula_trees::{
+    Args, Fun, Kind, MAX_LEVELS, MAX_NODES, Op, Tree, are_enough, kind_of, may_go_on,
+};
 use std::alloc::{AllocError, AllocFailed, Global};
 use std::marker::Model;
-
-/// The most levels that are open at once.
-const MAX_LEVELS: usize = 32;
-
-/// The most nodes of a formula.
-const MAX_NODES: usize = 512;
 
 /// A fault by its place and its number.
 #[derive(Clone, Copy, Debug)]
@@ -284,8 +280,8 @@ impl<'a> Reader<'a> {
     fn lone(&mut self, kind: Kind, literal: Literal) -> Result<Tree, ReadError>
         requires next { next_token self.old ≡ Token.Literal literal }
         requires kind { (kind ≡ Kind.Place) ⊎ (kind ≡ Kind.Exact) }
-        ensures ok { IfOk result (λ tree. ReadsLone (kind_named kind) literal self.old self.new (expr_of tree)) }
-        ensures err { IfErr result (λ e. FailsAlone (kind_named kind) self.old e) }
+        ensures ok { IfOk result (λ tree. ReadsLone kind literal self.old self.new (expr_of tree)) }
+        ensures err { IfErr result (λ e. FailsAlone kind self.old e) }
         ensures shorter { OnOk result (length self.new.spots < length self.old.spots) }
     {
         if !is_alone(kind, literal) {
@@ -516,8 +512,8 @@ impl<'a> Reader<'a> {
     ) -> Result<Tree, ReadError>
         requires short { length self.old.spots < 2 ^ 60 }
         requires on_sheet { IsOnSheet at }
-        ensures ok { IfOk result (λ tree. ReadsArgument at (kind_named kind) depth self.old self.new (expr_of tree)) }
-        ensures err { IfErr result (λ e. FailsArgument (kind_named kind) depth self.old e) }
+        ensures ok { IfOk result (λ tree. ReadsArgument at kind depth self.old self.new (expr_of tree)) }
+        ensures err { IfErr result (λ e. FailsArgument kind depth self.old e) }
         ensures shorter { OnOk result (length self.new.spots < length self.old.spots) }
     {
         match kind {

@@ -4,7 +4,7 @@ ghost use Rattle.formula_tokens.specs.Words.{begins_with};
 
 use crate::{FormulaFault, print_formula, read_formula};
 use cell_values::{Addr, SheetNames, Texts};
-use formula_trees::shift;
+use formula_trees::shift::shift;
 use std::alloc::{AllocError, Global};
 use std::process::Abort;
 use std::test::Fail;
@@ -73,11 +73,11 @@ const FAULTY: &str = "
     =FOO (1) => 1 3
     =SUM => 1 3
     =SUM+1 => 1 3
-    =9223372036854775808 => 1 4
-    =1 9223372036854775808 => 3 2
-    =-9223372036854775808 => 2 4
+    =170141183460469231731687303715884105728 => 1 4
+    =1 170141183460469231731687303715884105728 => 3 2
+    =-170141183460469231731687303715884105728 => 2 4
     =MATCH(1,A1:A2,1) => 15 2
-    =MATCH(1,A1:A2,9223372036854775808) => 15 2
+    =MATCH(1,A1:A2,170141183460469231731687303715884105728) => 15 2
     =IF(1) => 5 5
     =IF(1,2,3,4) => 9 5
     =IF(1,2,3,) => 9 5
@@ -151,7 +151,7 @@ const PRINTED: &str = "
     =(1=2)<>(3>=4) => =1=2<>(3>=4)
     =1<=2>3 => =1<=2>3
     =007 => =7
-    =9223372036854775807 => =9223372036854775807
+    =170141183460469231731687303715884105727 => =170141183460469231731687303715884105727
     =true => =TRUE
     =False => =FALSE
     =\"say \"\"so\"\"\" => =\"say \"\"so\"\"\"

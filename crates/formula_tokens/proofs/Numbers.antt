@@ -12,7 +12,8 @@ use Rattle.std.proofs.lemmas.Bool.Decides.{nat_tests}
 use Rattle.std.proofs.lemmas.Int.{ints}
 use Rattle.std.proofs.Math.Numerals.{one-add}
 use Rattle.std.proofs.lemmas.Bool.{cases_lt}
-use mir.Syntax.{w64}
+use mir.Val.{hbits}
+use Rattle.cell_values.proofs.FieldNumbers.{int_width}
 use Rattle.cell_values.specs.CellText.{letter_value}
 use Rattle.cell_values.specs.Numbers.{fits}
 use Rattle.formula_tokens.specs.declared.token.Literal.{Literal}
@@ -39,14 +40,14 @@ leading_digits (b ∷ rest) = first (leading_digits rest) (is_ascii_digit b) ref
 pub digits_cut : (bs ds : List ℕ) (n : ℕ) → ds ≡ take (n - 0) bs → n ≡ prefix_len is_ascii_digit bs → all_ascii_digits ds ≡ true
 digits_cut bs ds n e h = ap all_ascii_digits (e ∙ ap (λ k. take k bs) (omega arith)) ∙ leading_digits bs
 
-too_large : (n : ℕ) → (n < 2 ^ 63 → ⊥) → fits (pos n) ≡ false
+too_large : (n : ℕ) → (n < 2 ^ hbits int_width → ⊥) → fits (pos n) ≡ false
 too_large n h = grind (arith, ints, nat_tests)
 
 -- digits that `parse` refuses write a number that is too large
-pub huge_number : {E : Type 0} (bs : List ℕ) (r : Result ℤ E) (e : E) → ParsesSigned w64 10 bs r → r ≡ Err e → all_ascii_digits bs ≡ true → 0 < length bs → Token.Literal Literal.HugeNumber ≡ number_token bs
-huge_number bs r e h was p l = refused r e (parse_signed_digits own w64 bs r h p) was
+pub huge_number : {E : Type 0} (bs : List ℕ) (r : Result ℤ E) (e : E) → ParsesSigned int_width 10 bs r → r ≡ Err e → all_ascii_digits bs ≡ true → 0 < length bs → Token.Literal Literal.HugeNumber ≡ number_token bs
+huge_number bs r e h was p l = refused r e (parse_signed_digits own int_width bs r h p) was
   where
-    refused : {E : Type 0} (r : Result ℤ E) (e : E) → OkIff r ((0 < length bs) × (digits_value 10 bs < 2 ^ 63)) (pos (digits_value 10 bs)) → r ≡ Err e → Token.Literal Literal.HugeNumber ≡ number_token bs
+    refused : {E : Type 0} (r : Result ℤ E) (e : E) → OkIff r ((0 < length bs) × (digits_value 10 bs < 2 ^ hbits int_width)) (pos (digits_value 10 bs)) → r ≡ Err e → Token.Literal Literal.HugeNumber ≡ number_token bs
     refused (Ok n) e h was = cc
     refused (Err x) e h was = sym (ap (λ t. Token.Literal (cond t (Literal.Number (pos (digits_value 10 bs))) Literal.HugeNumber)) (too_large (digits_value 10 bs) (λ k. h (l, k))))
 

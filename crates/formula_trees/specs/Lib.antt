@@ -6,4 +6,5 @@ pub mod References
 pub mod Mentions
 pub mod Functions
 pub mod Sound
+pub mod Mapped
 pub mod Shifted

@@ -2,30 +2,34 @@
 use Rattle.std.specs.Prelude.{Option, Some, None, option_to_list, List, [], ◌++◌}
 use Rattle.cell_values.specs.declared.address.Addr.{Addr}
 use Rattle.cell_values.specs.declared.address.Area.{Area}
-use Rattle.cell_values.specs.Areas.{walk}
+use Rattle.cell_values.specs.Areas.{walk, IsArea}
+use Rattle.formula_trees.specs.declared.place.Place.{Place}
+use Rattle.formula_trees.specs.declared.place.Place.TheVariants.{Nowhere, Bad, Cells}
 use Rattle.formula_trees.specs.Expr.{Expr, Exprs, Ref, Range, RefError, Unary, Binary, Call, End, More}
 use Rattle.formula_trees.specs.References.{resolve, area_of}
 
--- where an argument stands in the sheet: an expression, `#REF!` or outside the sheet, or cells
-pub data Place : Type 0 where
-  Nowhere : Place
-  Bad : Place
-  Cells : Area → Place
-
+-- the cells of an area, or outside the sheet
 abbrev pub place_from : Option Area → Place
 place_from (Some r) = Cells r
 place_from None = Bad
 
--- an argument that is just a reference counts as the range of that cell
+-- where an argument stands; one that is just a reference counts as the range of that cell
 abbrev pub place_of : Addr → Expr → Place
 place_of at (Ref r) = place_from (area_of at r r)
 place_of at (Range r s) = place_from (area_of at r s)
 place_of at RefError = Bad
 place_of at _ = Nowhere
 
+-- what it has is an area of a sheet
+abbrev pub HasArea : Place → Type 0
+HasArea (Cells r) = IsArea r
+HasArea Nowhere = Unit {0}
+HasArea Bad = Unit {0}
+
 abbrev pub cells_of : Place → List Addr
 cells_of (Cells r) = walk r
-cells_of _ = []
+cells_of Nowhere = []
+cells_of Bad = []
 
 -- the addresses that the references and ranges name, each range in the order of its walk
 abbrev mutual

@@ -2,6 +2,7 @@
 use Rattle.std.specs.Prelude.{ℕ, ℤ, pos, negsuc, ◌+ℤ◌, ◌&&◌, nat_le, Option, Some, None, unwrap_or, if◌then◌else◌}
 use Rattle.cell_values.specs.declared.address.Addr.{Addr}
 use Rattle.cell_values.specs.declared.address.Area.{Area}
+use Rattle.cell_values.specs.declared.TheConstants.{LAST_ROW, LAST_COLUMN}
 use Rattle.cell_values.specs.Areas.{between_cells}
 use Rattle.formula_trees.specs.declared.tree.Part.{Part}
 use Rattle.formula_trees.specs.declared.tree.Reference.{Reference}
@@ -21,7 +22,7 @@ cell_at s _ _ = None
 
 -- the cell that a reference names, none where it lies outside the sheet
 unfoldable pub resolve : Addr → Reference → Option Addr
-resolve at r = cell_at (unwrap_or r.sheet at.sheet) (up_to 65536 (part_at at.row r.row)) (up_to 256 (part_at at.col r.col))
+resolve at r = cell_at (unwrap_or r.sheet at.sheet) (up_to LAST_ROW (part_at at.row r.row)) (up_to LAST_COLUMN (part_at at.col r.col))
 
 -- the rectangle between two corners, none where one lies outside the sheet
 abbrev pub area_between : Option Addr → Option Addr → Option Area

@@ -1,6 +1,7 @@
 -- Which trees are formulas' at a cell.
 use Rattle.std.specs.Prelude.{◌≡◌, ℕ, suc, ◌+◌, ◌*◌, ◌≤◌, max, ℤ, pos, int_le, ◌&&◌, false, cond, nat_lt, IsTrue, IsSome, IsSomeAnd}
 use Rattle.cell_values.specs.declared.address.Addr.{Addr}
+use Rattle.cell_values.specs.declared.TheConstants.{MAX_RANGE_CELLS}
 use Rattle.cell_values.specs.Areas.{height, width}
 use Rattle.cell_values.specs.Numbers.{fits}
 use Rattle.formula_trees.specs.declared.tree.Reference.{Reference}
@@ -8,7 +9,11 @@ use Rattle.formula_trees.specs.declared.tree.Op.{Op}
 use Rattle.formula_trees.specs.declared.tree.Fun.{Fun}
 use Rattle.formula_trees.specs.Expr.{Expr, Exprs, Number, Text, Truth, Ref, Range, RefError, Unary, Binary, Call, End, More}
 use Rattle.formula_trees.specs.References.{resolve, area_of}
-use Rattle.formula_trees.specs.Functions.{Kind, Plain, Place, Many, Exact, kind_of, enough, takes_more}
+use Rattle.formula_trees.specs.declared.functions.Kind.{Kind}
+use Rattle.formula_trees.specs.declared.functions.Kind.TheVariants.{Plain, Place, Many, Exact}
+use Rattle.formula_trees.specs.declared.TheConstants.{MAX_NODES, MAX_LEVELS}
+use Rattle.formula_trees.specs.declared.levels.TheConstants.{COMPARISON_LEVEL, SUM_LEVEL, TERM_LEVEL, SIGN_LEVEL, OPERAND_LEVEL}
+use Rattle.formula_trees.specs.Functions.{kind_of, enough, takes_more}
 
 -- a number that a formula may spell
 abbrev pub IsLiteral : ℤ → Type 0
@@ -17,7 +22,7 @@ IsLiteral n = IsTrue (int_le (pos 0) n && fits n)
 -- both corners lie inside the sheet, on the same sheet, and the rectangle has at most 65,536 cells
 pub record IsRange (at : Addr) (r s : Reference) : Type 0 where
   pub one_sheet : r.sheet ≡ s.sheet
-  pub small : IsSomeAnd (area_of at r s) (λ a. height a * width a ≤ 65536)
+  pub small : IsSomeAnd (area_of at r s) (λ a. height a * width a ≤ MAX_RANGE_CELLS)
 
 -- a number of value 0, or FALSE
 abbrev pub IsExact : Expr → Type 0
@@ -73,19 +78,24 @@ abbrev mutual
   nodes_of End = 0
   nodes_of (More a rest) = nodes a + nodes_of rest
 
--- the level of an operator: comparison, sum, term
+-- the level of an operator
 abbrev pub op_level : Op → ℕ
-op_level Op.Add = 2
-op_level Op.Sub = 2
-op_level Op.Mul = 3
-op_level Op.Div = 3
-op_level _ = 1
+op_level Op.Add = SUM_LEVEL
+op_level Op.Sub = SUM_LEVEL
+op_level Op.Mul = TERM_LEVEL
+op_level Op.Div = TERM_LEVEL
+op_level Op.Eq = COMPARISON_LEVEL
+op_level Op.Ne = COMPARISON_LEVEL
+op_level Op.Lt = COMPARISON_LEVEL
+op_level Op.Le = COMPARISON_LEVEL
+op_level Op.Gt = COMPARISON_LEVEL
+op_level Op.Ge = COMPARISON_LEVEL
 
--- the level of a tree's root: an operator's, 4 at a sign, 5 at all others
+-- the level of a tree's root
 abbrev pub level_of : Expr → ℕ
-level_of (Unary s a) = 4
+level_of (Unary s a) = SIGN_LEVEL
 level_of (Binary o a b) = op_level o
-level_of _ = 5
+level_of _ = OPERAND_LEVEL
 
 -- parentheses open one more, where the root's level is lower than asked for
 abbrev pub in_parentheses : ℕ → Expr → ℕ → ℕ
@@ -94,7 +104,7 @@ in_parentheses least e inner = cond (nat_lt (level_of e) least) (suc inner) inne
 -- how many levels the printed formula opens at once: one at each `(` and each sign
 abbrev mutual
   pub levels : Expr → ℕ
-  levels (Unary s a) = suc (in_parentheses 4 a (levels a))
+  levels (Unary s a) = suc (in_parentheses SIGN_LEVEL a (levels a))
   levels (Binary o a b) = max (in_parentheses (op_level o) a (levels a)) (in_parentheses (suc (op_level o)) b (levels b))
   levels (Call f args) = suc (levels_of args)
   levels _ = 0
@@ -106,5 +116,5 @@ abbrev mutual
 -- the tree is a formula's at the cell
 pub record IsSound (at : Addr) (e : Expr) : Type 0 where
   pub shape : IsExpression at e
-  pub small : nodes e ≤ 512
-  pub flat : levels e ≤ 32
+  pub small : nodes e ≤ MAX_NODES
+  pub flat : levels e ≤ MAX_LEVELS

@@ -1,11 +1,13 @@
-//! Where references and ranges stand in the sheets.
+//! Where references, ranges and arguments stand in the sheets.
 ghost use Rattle.std.specs.Prelude.{◌≡◌, ◌≤◌, IfSome};
 ghost use Rattle.cell_values.specs.Addresses.{IsOnSheet};
-ghost use Rattle.cell_values.specs.Areas.{between_cells, IsArea};
+ghost use Rattle.cell_values.specs.Areas.{IsArea};
+ghost use Rattle.formula_trees.specs.Expr.{expr_of};
+ghost use Rattle.formula_trees.specs.Mentions.{HasArea, place_from, place_of};
 ghost use Rattle.formula_trees.specs.References.{part_at, up_to, resolve, area_of};
 
-use crate::{Part, Reference};
-use cell_values::{Addr, Area};
+use crate::{Part, Place, Reference, Tree};
+use cell_values::{Addr, Area, LAST_COLUMN, LAST_ROW};
 
 /// The cell that a reference names at the formula's cell, None where it lies outside the sheet.
 #[tactic(auto, unfolding(crate::specs::References::resolve))]
@@ -17,11 +19,11 @@ pub fn resolve(reference: &Reference, at: Addr) -> Option<Addr>
         Some(s) => s,
         None => at.sheet,
     };
-    let row = match up_to(65536, at.row, reference.row) {
+    let row = match up_to(LAST_ROW, at.row, reference.row) {
         Some(r) => r,
         None => return None,
     };
-    let col = match up_to(256, u32::from(at.col), reference.col) {
+    let col = match up_to(u32::from(LAST_COLUMN), u32::from(at.col), reference.col) {
         Some(c) => c,
         None => return None,
     };
@@ -39,8 +41,38 @@ pub fn area_of(first: &Reference, second: &Reference, at: Addr) -> Option<Area>
     ensures within { IfSome result IsArea }
 {
     match (resolve(first, at), resolve(second, at)) {
-        (Some(a), Some(b)) => Some(between(a, b)),
+        (Some(a), Some(b)) => Some(Area::between(a, b)),
         _ => None,
+    }
+}
+
+/// Where an argument stands; one that is just a reference counts as the range of that cell.
+pub fn place_of(tree: &Tree, at: Addr) -> Place
+    ensures same { result ≡ place_of at (expr_of tree.now) }
+    ensures within { HasArea result }
+{
+    match tree {
+        Tree::Ref(r) => place_from(area_of(r, r, at)),
+        Tree::Range(r, s) => place_from(area_of(r, s, at)),
+        Tree::RefError => Place::Bad,
+        Tree::Number(_)
+        | Tree::Text(_)
+        | Tree::Bool(_)
+        | Tree::Unary(_, _)
+        | Tree::Binary(_, _, _)
+        | Tree::Call(_, _) => Place::Nowhere,
+    }
+}
+
+/// The cells of an area; where there is none, the argument lies outside the sheet.
+pub fn place_from(area: Option<Area>) -> Place
+    requires { IfSome area IsArea }
+    ensures same { result ≡ place_from area }
+    ensures within { HasArea result }
+{
+    match area {
+        Some(area) => Place::Cells(area),
+        None => Place::Bad,
     }
 }
 
@@ -58,21 +90,5 @@ fn up_to(most: u32, here: u32, part: Part) -> Option<u32>
         None
     } else {
         Some(place as u32)
-    }
-}
-
-/// The rectangle between two cells.
-fn between(a: Addr, b: Addr) -> Area
-    requires first { IsOnSheet a }
-    requires second { IsOnSheet b }
-    ensures same { result ≡ between_cells a b }
-    ensures within { IsArea result }
-{
-    Area {
-        sheet: a.sheet,
-        top: a.row.min(b.row),
-        left: a.col.min(b.col),
-        bottom: a.row.max(b.row),
-        right: a.col.max(b.col),
     }
 }

@@ -6,7 +6,7 @@ use Rattle.formula_grammar.proofs.read.read_formula.Goals as goal
 
 pub returns-in-Ok-clause-refused : goal.returns-in-Ok-clause-refused
 returns-in-Ok-clause-refused c =
-    let short : length c.args.text.now ≤ 1024 = omega (arith, c.if-text-gt-MAX_BYTES.false) in
+    let short : length c.args.text.now ≤ 1024 = omega (arith, c.if-text-gt-MAX_FORMULA_BYTES.false) in
     refused c.args.sheets.now (with_literals c.args.sheets.now c.args.texts.now c.args.text.now) c.args.at c.args.text.now c.deref.result.now c.read_spots.result short
     (c.deref.ensures.value ∙ c.in-Ok.ensures.tokens ∙ ap (λ ts. spots_of c.args.sheets.now ts c.args.text.now) c.in-Ok.ensures.interned) c.read_spots.ensures.ok c.read_spots.ensures.bad
 

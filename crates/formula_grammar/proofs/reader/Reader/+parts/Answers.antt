@@ -2,7 +2,6 @@ use Rattle.std.proofs.Common.{sym, ap, ap₂, ◌∙◌, arith}
 use Rattle.std.proofs.lemmas.Result.{err_from_is_err_and}
 use Rattle.formula_trees.specs.Expr.{expr_of, exprs_of, Unary, More}
 use Rattle.formula_grammar.specs.Fault.{own_fault}
-use Rattle.formula_grammar.specs.Kinds.{kind_named}
 use Rattle.formula_grammar.specs.Rest.{sign_token}
 use Rattle.formula_grammar.proofs.Reading as R
 use Rattle.formula_grammar.proofs.reader.Reader.+parts.Goals as goal
@@ -151,7 +150,7 @@ call-returns-in_err-arguments-in_default-peek t c =
 
 pub arguments-returns-in_ok-new-in-Comma-2-clause-ok : goal.arguments-returns-in_ok-new-in-Comma-2-clause-ok
 arguments-returns-in_ok-new-in-Comma-2-clause-ok t c =
-    R.more_is _ _ (kind_named c.kind_of.result) _ _ _ c.argument.new.self c.advance-in-Comma.new.self _ (expr_of c.in_ok-first.first) (exprs_of c.in_ok-others-in-Comma.others) _ c.kind_of.ensures c.in_ok-first.ensures.ok
+    R.more_is _ _ c.kind_of.result _ _ _ c.argument.new.self c.advance-in-Comma.new.self _ (expr_of c.in_ok-first.first) (exprs_of c.in_ok-others-in-Comma.others) _ c.kind_of.ensures c.in_ok-first.ensures.ok
     (R.took _ _ _ _ (λ e. cc) (sym c.in-Comma.ensures) c.advance-in-Comma.ensures)
     (sym c.may_go_on.ensures ∙ c.if-not-may_go_on.false) c.in_ok-others-in-Comma.ensures.ok
     (ap₂ More (ap expr_of c.in_ok-new-in-Comma.ensures.ok) (ap exprs_of c.in_ok-new-in-Comma-2.ensures.ok))
@@ -160,31 +159,31 @@ pub arguments-returns-in_err-others-in-Comma-clause-err : goal.arguments-returns
 arguments-returns-in_err-others-in-Comma-clause-err t c =
     let p = err_from_is_err_and c.from_residual-in_err-others-in-Comma.result c.from_residual-in_err-others-in-Comma.ensures.1 in
     let f =
-    R.fails_more _ _ (kind_named c.kind_of.result) _ _ _ c.argument.new.self c.advance-in-Comma.new.self (expr_of c.in_ok-first.first) _ c.kind_of.ensures c.in_ok-first.ensures.ok
+    R.fails_more _ c.args.function c.kind_of.result c.args.before _ _ c.argument.new.self c.advance-in-Comma.new.self (expr_of c.in_ok-first.first) _ c.kind_of.ensures c.in_ok-first.ensures.ok
     (R.took _ _ _ _ (λ e. cc) (sym c.in-Comma.ensures) c.advance-in-Comma.ensures) (sym c.may_go_on.ensures ∙ c.if-not-may_go_on.false) c.in_err-others-in-Comma.ensures.err
     in
     rw (p.1, p.2) f
 
 pub arguments-returns-in_ok-new-in-RightParen-2-clause-ok : goal.arguments-returns-in_ok-new-in-RightParen-2-clause-ok
 arguments-returns-in_ok-new-in-RightParen-2-clause-ok t c =
-    R.last_is _ _ (kind_named c.kind_of.result) _ _ _ c.argument.new.self _ (expr_of c.in_ok-first.first) _ c.kind_of.ensures c.in_ok-first.ensures.ok
+    R.last_is _ _ c.kind_of.result _ _ _ c.argument.new.self _ (expr_of c.in_ok-first.first) _ c.kind_of.ensures c.in_ok-first.ensures.ok
     (R.took _ _ _ _ (λ e. cc) (sym c.in-RightParen.ensures) c.advance.ensures)
     (sym c.are_enough.ensures ∙ c.if-not-are_enough.false)
     (ap₂ More (ap expr_of c.in_ok-new-in-RightParen.ensures.ok) (ap exprs_of c.in_ok-new-in-RightParen-2.ensures.ok))
 
 pub argument-returns-in-Plain-clause-ok : goal.argument-returns-in-Plain-clause-ok
-argument-returns-in-Plain-clause-ok t c = R.argument_value_ok _ c.args.kind _ _ _ c.expression.result (sym (ap kind_named c.in-Plain.is)) c.expression.ensures.next c.expression.ensures.ok
+argument-returns-in-Plain-clause-ok t c = R.argument_value_ok _ c.args.kind _ _ _ c.expression.result (sym c.in-Plain.is) c.expression.ensures.next c.expression.ensures.ok
 
 pub argument-returns-in-Plain-clause-err : goal.argument-returns-in-Plain-clause-err
-argument-returns-in-Plain-clause-err t c = R.fails_value c.args.kind _ _ c.expression.result (sym (ap kind_named c.in-Plain.is)) c.expression.ensures.err
+argument-returns-in-Plain-clause-err t c = R.fails_value c.args.kind _ _ c.expression.result (sym c.in-Plain.is) c.expression.ensures.err
 
 pub argument-returns-else-is_range_ahead-clause-ok : goal.argument-returns-else-is_range_ahead-clause-ok
 argument-returns-else-is_range_ahead-clause-ok t c =
-    R.argument_many_ok _ c.args.kind _ _ _ c.expression-else-is_range_ahead.result (sym (ap kind_named c.in-Many.is)) (sym c.is_range_ahead.ensures ∙ c.if-is_range_ahead.false) c.expression-else-is_range_ahead.ensures.next c.expression-else-is_range_ahead.ensures.ok
+    R.argument_many_ok _ c.args.kind _ _ _ c.expression-else-is_range_ahead.result (sym c.in-Many.is) (sym c.is_range_ahead.ensures ∙ c.if-is_range_ahead.false) c.expression-else-is_range_ahead.ensures.next c.expression-else-is_range_ahead.ensures.ok
 
 pub argument-returns-else-is_range_ahead-clause-err : goal.argument-returns-else-is_range_ahead-clause-err
 argument-returns-else-is_range_ahead-clause-err t c =
-    R.fails_many_value c.args.kind _ _ c.expression-else-is_range_ahead.result (sym (ap kind_named c.in-Many.is)) (sym c.is_range_ahead.ensures ∙ c.if-is_range_ahead.false) c.expression-else-is_range_ahead.ensures.err
+    R.fails_many_value c.args.kind _ _ c.expression-else-is_range_ahead.result (sym c.in-Many.is) (sym c.is_range_ahead.ensures ∙ c.if-is_range_ahead.false) c.expression-else-is_range_ahead.ensures.err
 
 pub argument-returns-in-Literal-clause-ok : goal.argument-returns-in-Literal-clause-ok
 argument-returns-in-Literal-clause-ok t c = R.argument_lone_ok _ c.args.kind _ c.in-Literal.literal _ _ c.lone.result c.lone.ensures.ok

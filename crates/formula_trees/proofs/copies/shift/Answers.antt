@@ -1,6 +1,0 @@
-use Rattle.formula_trees.specs.Expr.{expr_of}
-use Rattle.formula_trees.proofs.Shifts.{sound_copy}
-use Rattle.formula_trees.proofs.copies.shift.Goals as goal
-
-pub returns-clause-sound : goal.returns-clause-sound
-returns-clause-sound t = sound_copy t.args.from t.args.to (expr_of t.args.tree.now) t.shift_tree.result t.requires t.shift_tree.ensures
