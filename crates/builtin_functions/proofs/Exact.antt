@@ -1,5 +1,6 @@
 -- What the machine's numbers hold is what fits.
-use Rattle.std.proofs.Common.{◌≡◌, ◌≢◌, ℕ, ◌<◌, ◌^◌, zero, suc, true, false, not, leb, ltb, ◌&&◌, ℤ, pos, negsuc, ◌+ℤ◌, ◌-ℤ◌, neg_ℤ, FitsSigned, SomeIff, Option, Some, None, if◌then◌else◌, int_lt, int_div, unsigned_abs, refl, sym, ap, ◌∙◌, arith, w64}
+use Rattle.std.proofs.Common.{◌≡◌, ◌≢◌, ℕ, ◌<◌, ◌^◌, zero, suc, true, false, not, leb, ltb, ◌&&◌, ℤ, pos, negsuc, ◌+ℤ◌, ◌-ℤ◌, neg_ℤ, FitsSigned, SomeIff, Option, Some, None, if◌then◌else◌, int_lt, int_div, unsigned_abs, refl, sym, ap, ◌∙◌, arith}
+use mir.Syntax.{Width, w128}
 use mathlib.Core.Bool.{beq}
 use Rattle.std.specs.Int.{CanDivide, IsNonZero}
 use Rattle.std.proofs.lemmas.Bool.Decides.{nat_tests}
@@ -9,9 +10,13 @@ use Rattle.cell_values.specs.declared.values.Value.{Value}
 use Rattle.cell_values.specs.Numbers.{fits}
 use Rattle.builtin_functions.specs.Tables.{number, or_num, quotient, is_zero, modulo, remainder, with_sign_of}
 
+-- the width of a number
+abbrev pub int_width : Width
+int_width = w128
+
 -- a machine's number holds it
 abbrev pub Held : ℤ → Type 0
-Held = FitsSigned w64
+Held = FitsSigned int_width
 
 pub fits_held : (z : ℤ) → Held z → fits z ≡ true
 fits_held (pos n) f = grind (arith, nat_tests, f.sfits)
@@ -20,11 +25,11 @@ fits_held (negsuc n) f = grind (arith, nat_tests, f.sfits)
 pub fits_beyond : (z : ℤ) → ¬ Held z → fits z ≡ false
 fits_beyond (pos n) f = beyond n (λ h. f (record { sfits = h }))
   where
-    beyond : (n : ℕ) → ¬ (n < 2 ^ 63) → leb n 9223372036854775807 ≡ false
+    beyond : (n : ℕ) → ¬ (n < 2 ^ 127) → leb n 170141183460469231731687303715884105727 ≡ false
     beyond n f = grind (arith, nat_tests)
 fits_beyond (negsuc n) f = beyond n (λ h. f (record { sfits = h }))
   where
-    beyond : (n : ℕ) → ¬ (n < 2 ^ 63) → (leb n 9223372036854775807 && true) ≡ false
+    beyond : (n : ℕ) → ¬ (n < 2 ^ 127) → (leb n 170141183460469231731687303715884105727 && true) ≡ false
     beyond n f = grind (arith, nat_tests)
 
 pub number_fitting : (z : ℤ) → fits z ≡ true → number z ≡ Value.Number z
@@ -69,7 +74,7 @@ not_zero (pos zero) h = absurd (h refl)
 not_zero (pos (suc n)) h = grind (arith, nat_tests)
 not_zero (negsuc n) h = refl
 
-non_zero_bits : (y : ℤ) → Held y → y ≢ pos 0 → IsNonZero w64 y
+non_zero_bits : (y : ℤ) → Held y → y ≢ pos 0 → IsNonZero int_width y
 non_zero_bits (pos zero) f h = absurd (h refl)
 non_zero_bits (pos (suc n)) f h = omega arith
 non_zero_bits (negsuc n) f h = omega (arith, f.sfits)
@@ -78,11 +83,11 @@ pub quotient_not_by_zero : (x y : ℤ) → y ≢ pos 0 → quotient x y ≡ numb
 unfolding quotient
 quotient_not_by_zero x y h = ap (λ b. if b then Value.Error Code.Div else number (int_div x y)) (not_zero y h)
 
-pub quotient_is : (x y : ℤ) (r : Option ℤ) → Held y → y ≢ pos 0 → SomeIff r (CanDivide w64 x y) (int_div x y) → or_num r ≡ quotient x y
+pub quotient_is : (x y : ℤ) (r : Option ℤ) → Held y → y ≢ pos 0 → SomeIff r (CanDivide int_width x y) (int_div x y) → or_num r ≡ quotient x y
 unfolding quotient
 quotient_is x y r g h k = number_is (int_div x y) r (exactly r k) ∙ sym (ap (λ b. if b then Value.Error Code.Div else number (int_div x y)) (not_zero y h))
   where
-    exactly : (r : Option ℤ) → SomeIff r (CanDivide w64 x y) (int_div x y) → SomeIff r (Held (int_div x y)) (int_div x y)
+    exactly : (r : Option ℤ) → SomeIff r (CanDivide int_width x y) (int_div x y) → SomeIff r (Held (int_div x y)) (int_div x y)
     exactly (Some v) k = (k.0.1, k.1)
     exactly None k = λ f. k (non_zero_bits y g h, f)
 
@@ -121,7 +126,7 @@ with_sign_kept (negsuc n) (negsuc r) k = refl
 pub sum_held : (y r : ℤ) → Held y → Held r → not (beq (int_lt r (pos 0)) (int_lt y (pos 0))) ≡ true → Held (r +ℤ y)
 sum_held (pos n) (pos r) f g k = absurd (let e = simp below_zero at k in cc)
 sum_held (negsuc n) (pos zero) f g k = let e : pos 0 +ℤ negsuc n ≡ negsuc n = omega (arith, ints) in rw e f
-sum_held (negsuc n) (pos (suc r)) f g k = fits_signed_from_abs w64 (pos (suc r) +ℤ negsuc n) (omega (arith, ints, f.sfits, g.sfits))
+sum_held (negsuc n) (pos (suc r)) f g k = fits_signed_from_abs int_width (pos (suc r) +ℤ negsuc n) (omega (arith, ints, f.sfits, g.sfits))
 sum_held (pos zero) (negsuc r) f g k = let e : negsuc r +ℤ pos 0 ≡ negsuc r = omega (arith, ints) in rw e g
-sum_held (pos (suc n)) (negsuc r) f g k = fits_signed_from_abs w64 (negsuc r +ℤ pos (suc n)) (omega (arith, ints, f.sfits, g.sfits))
+sum_held (pos (suc n)) (negsuc r) f g k = fits_signed_from_abs int_width (negsuc r +ℤ pos (suc n)) (omega (arith, ints, f.sfits, g.sfits))
 sum_held (negsuc n) (negsuc r) f g k = absurd (cc)

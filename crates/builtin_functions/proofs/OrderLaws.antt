@@ -5,8 +5,8 @@ use Rattle.std.specs.declared.cmp.Ordering.{Ordering}
 use Rattle.std.specs.declared.cmp.Ordering.TheVariants.{Less, Equal, Greater}
 use Rattle.std.proofs.lemmas.Cmp.{int_cmp_total, nat_list_cmp_total}
 use Rattle.cell_values.specs.declared.values.Value.{Value}
-use Rattle.cell_values.specs.Texts.{Texts, text_at}
-use Rattle.builtin_functions.specs.Tables.{order, bool_order, same, equals, ordered}
+use Rattle.cell_values.specs.Texts.{Texts}
+use Rattle.builtin_functions.specs.Tables.{Class, class, class_order, order, bool_order, same, equals, ordered}
 use Rattle.builtin_functions.specs.Laws.{OrderTurns}
 
 bool_turns : (x y : Bool) → bool_order x y ≡ ordering_reverse (bool_order y x)
@@ -15,24 +15,36 @@ bool_turns true false = refl
 bool_turns false true = refl
 bool_turns false false = refl
 
+pub classes_turn : (a b : Class) → class_order a b ≡ option_map ordering_reverse (class_order b a)
+classes_turn (Class.Number x) (Class.Number y) = ap Some (int_cmp_total.antisymm x y)
+classes_turn (Class.Number x) (Class.Text t) = refl
+classes_turn (Class.Number x) (Class.Truth q) = refl
+classes_turn (Class.Number x) Class.Blank = ap Some (int_cmp_total.antisymm x (pos 0))
+classes_turn (Class.Number x) (Class.Failed e) = refl
+classes_turn (Class.Text s) (Class.Number y) = refl
+classes_turn (Class.Text s) (Class.Text t) = ap Some (nat_list_cmp_total.antisymm s t)
+classes_turn (Class.Text s) (Class.Truth q) = refl
+classes_turn (Class.Text s) Class.Blank = ap Some (nat_list_cmp_total.antisymm s [])
+classes_turn (Class.Text s) (Class.Failed e) = refl
+classes_turn (Class.Truth p) (Class.Number y) = refl
+classes_turn (Class.Truth p) (Class.Text t) = refl
+classes_turn (Class.Truth p) (Class.Truth q) = ap Some (bool_turns p q)
+classes_turn (Class.Truth p) Class.Blank = ap Some (bool_turns p false)
+classes_turn (Class.Truth p) (Class.Failed e) = refl
+classes_turn Class.Blank (Class.Number y) = ap Some (int_cmp_total.antisymm (pos 0) y)
+classes_turn Class.Blank (Class.Text t) = ap Some (nat_list_cmp_total.antisymm [] t)
+classes_turn Class.Blank (Class.Truth q) = ap Some (bool_turns false q)
+classes_turn Class.Blank Class.Blank = refl
+classes_turn Class.Blank (Class.Failed e) = refl
+classes_turn (Class.Failed d) (Class.Number y) = refl
+classes_turn (Class.Failed d) (Class.Text t) = refl
+classes_turn (Class.Failed d) (Class.Truth q) = refl
+classes_turn (Class.Failed d) Class.Blank = refl
+classes_turn (Class.Failed d) (Class.Failed e) = refl
+
 pub order_turns : (ts : Texts) (a b : Value) → order ts a b ≡ option_map ordering_reverse (order ts b a)
 unfolding order
-order_turns ts (Value.Number x) (Value.Number y) = ap Some (int_cmp_total.antisymm x y)
-order_turns ts (Value.Number x) Value.Blank = ap Some (int_cmp_total.antisymm x (pos 0))
-order_turns ts Value.Blank (Value.Number y) = ap Some (int_cmp_total.antisymm (pos 0) y)
-order_turns ts (Value.Text s) (Value.Text t) = ap Some (nat_list_cmp_total.antisymm (text_at ts s) (text_at ts t))
-order_turns ts (Value.Text s) Value.Blank = ap Some (nat_list_cmp_total.antisymm (text_at ts s) [])
-order_turns ts Value.Blank (Value.Text t) = ap Some (nat_list_cmp_total.antisymm [] (text_at ts t))
-order_turns ts (Value.Bool x) (Value.Bool y) = ap Some (bool_turns x y)
-order_turns ts (Value.Bool x) Value.Blank = ap Some (bool_turns x false)
-order_turns ts Value.Blank (Value.Bool y) = ap Some (bool_turns false y)
-order_turns ts Value.Blank Value.Blank = refl
-order_turns ts (Value.Error e) (Value.Number y) = refl
-order_turns ts (Value.Error e) (Value.Text t) = refl
-order_turns ts (Value.Error e) (Value.Bool y) = refl
-order_turns ts (Value.Error e) Value.Blank = refl
-order_turns ts (Value.Error e) (Value.Error d) = refl
-order_turns ts _ _ = refl
+order_turns ts a b = classes_turn (class ts a) (class ts b)
 
 equals_turned : (o : Option Ordering) → equals (option_map ordering_reverse o) ≡ equals o
 equals_turned (Some Less) = refl

@@ -34,8 +34,10 @@ counted FoldKind.Count t n = Ok (Some (cond (fits (so_far t +ℤ pos 1)) (so_far
 
 -- a Text or Bool outside a range: COUNT passes it over
 abbrev pub stops : FoldKind → Total → Result Total Code
+stops FoldKind.Sum t = Err Code.Value
+stops FoldKind.Min t = Err Code.Value
+stops FoldKind.Max t = Err Code.Value
 stops FoldKind.Count t = Ok t
-stops _ t = Err Code.Value
 
 -- a value on, from a cell of a range or from an argument of its own: the total, or why the walk ends
 abbrev pub taken : FoldKind → Total → Bool → Value → Result Total Code

@@ -42,7 +42,10 @@ QuotientIsTruncated = (x y : ℤ) → y ≢ pos 0 → (q : ℤ) × (r : ℤ) × 
 -- the Numbers of a list of values
 abbrev pub and_its_number : Value → List ℤ → List ℤ
 and_its_number (Value.Number n) ns = n ∷ ns
-and_its_number _ ns = ns
+and_its_number (Value.Text t) ns = ns
+and_its_number (Value.Bool b) ns = ns
+and_its_number Value.Blank ns = ns
+and_its_number (Value.Error e) ns = ns
 
 abbrev pub numbers_in : List (Value × Bool) → List ℤ
 numbers_in [] = []

@@ -1,5 +1,5 @@
 -- The tables of operators: values in, a value out.
-use Rattle.std.specs.Prelude.{zero, suc, Bool, true, false, not, ℤ, pos, negsuc, ◌+ℤ◌, ◌-ℤ◌, ◌*ℤ◌, int_div, int_rem, unsigned_abs, nat_eq, Option, Some, None, Result, Ok, Err, [], if◌then◌else◌}
+use Rattle.std.specs.Prelude.{ℕ, zero, suc, Bool, true, false, not, ℤ, pos, negsuc, ◌+ℤ◌, ◌-ℤ◌, ◌*ℤ◌, int_div, int_rem, unsigned_abs, nat_eq, Option, Some, None, unwrap_or, Result, Ok, Err, List, [], if◌then◌else◌}
 use Rattle.std.specs.Ordering.{nat_cmp, int_cmp, is_eq, is_lt, is_le, is_gt, is_ge}
 use Rattle.std.specs.declared.cmp.Ordering.{Ordering}
 use Rattle.std.specs.declared.cmp.Ordering.TheVariants.{Less, Equal, Greater}
@@ -7,14 +7,10 @@ use Rattle.std.specs.Cmp.Lexicographic.{slice_cmp}
 use Rattle.cell_values.specs.declared.values.Code.{Code}
 use Rattle.cell_values.specs.declared.values.Value.{Value}
 use Rattle.cell_values.specs.Numbers.{fits}
-use Rattle.cell_values.specs.Texts.{Texts, text_at, IsTextOf}
+use Rattle.cell_values.specs.Texts.{Texts}
+use Rattle.cell_values.specs.Values.{is_error, as_number, text_of}
 use Rattle.builtin_functions.specs.declared.operators.Op2.{Op2}
 use Rattle.builtin_functions.specs.declared.operators.Sign2.{Sign2}
-
--- a Text's number is one of these texts'
-abbrev pub IsValueOf : Texts → Value → Type 0
-IsValueOf ts (Value.Text t) = IsTextOf ts t
-IsValueOf ts _ = Unit {0}
 
 -- the number, `#NUM!` where it does not fit
 unfoldable pub number : ℤ → Value
@@ -29,16 +25,6 @@ or_num None = Value.Error Code.Num
 abbrev pub or_wrong_kind : Option Bool → Value
 or_wrong_kind (Some b) = Value.Bool b
 or_wrong_kind None = Value.Error Code.Value
-
-abbrev pub is_error : Value → Bool
-is_error (Value.Error e) = true
-is_error _ = false
-
--- what arithmetic takes a value as; Text and Bool have no number
-abbrev pub as_number : Value → Option ℤ
-as_number (Value.Number n) = Some n
-as_number Value.Blank = Some (pos 0)
-as_number _ = None
 
 abbrev pub is_zero : ℤ → Bool
 is_zero (pos n) = nat_eq n 0
@@ -75,19 +61,52 @@ bool_order true false = Greater
 bool_order false true = Less
 bool_order false false = Equal
 
--- the order of two values of one kind; Blank stands for 0, the empty text or FALSE
+-- what values are compared by: a text by its bytes
+pub data Class : Type 0 where
+  Number : ℤ → Class
+  Text : List ℕ → Class
+  Truth : Bool → Class
+  Blank : Class
+  Failed : Code → Class
+
+abbrev pub class : Texts → Value → Class
+class ts (Value.Number n) = Class.Number n
+class ts (Value.Text t) = Class.Text (unwrap_or (text_of ts (Value.Text t)) [])
+class ts (Value.Bool b) = Class.Truth b
+class ts Value.Blank = Class.Blank
+class ts (Value.Error e) = Class.Failed e
+
+-- two of one class have an order, texts by their bytes; Blank stands for 0, the empty text or FALSE
+abbrev pub class_order : Class → Class → Option Ordering
+class_order (Class.Number x) (Class.Number y) = Some (int_cmp x y)
+class_order (Class.Number x) (Class.Text t) = None
+class_order (Class.Number x) (Class.Truth q) = None
+class_order (Class.Number x) Class.Blank = Some (int_cmp x (pos 0))
+class_order (Class.Number x) (Class.Failed e) = None
+class_order (Class.Text s) (Class.Number y) = None
+class_order (Class.Text s) (Class.Text t) = Some (slice_cmp nat_cmp s t)
+class_order (Class.Text s) (Class.Truth q) = None
+class_order (Class.Text s) Class.Blank = Some (slice_cmp nat_cmp s [])
+class_order (Class.Text s) (Class.Failed e) = None
+class_order (Class.Truth p) (Class.Number y) = None
+class_order (Class.Truth p) (Class.Text t) = None
+class_order (Class.Truth p) (Class.Truth q) = Some (bool_order p q)
+class_order (Class.Truth p) Class.Blank = Some (bool_order p false)
+class_order (Class.Truth p) (Class.Failed e) = None
+class_order Class.Blank (Class.Number y) = Some (int_cmp (pos 0) y)
+class_order Class.Blank (Class.Text t) = Some (slice_cmp nat_cmp [] t)
+class_order Class.Blank (Class.Truth q) = Some (bool_order false q)
+class_order Class.Blank Class.Blank = Some Equal
+class_order Class.Blank (Class.Failed e) = None
+class_order (Class.Failed d) (Class.Number y) = None
+class_order (Class.Failed d) (Class.Text t) = None
+class_order (Class.Failed d) (Class.Truth q) = None
+class_order (Class.Failed d) Class.Blank = None
+class_order (Class.Failed d) (Class.Failed e) = None
+
+-- the order of two values
 unfoldable pub order : Texts → Value → Value → Option Ordering
-order ts (Value.Number x) (Value.Number y) = Some (int_cmp x y)
-order ts (Value.Number x) Value.Blank = Some (int_cmp x (pos 0))
-order ts Value.Blank (Value.Number y) = Some (int_cmp (pos 0) y)
-order ts (Value.Text s) (Value.Text t) = Some (slice_cmp nat_cmp (text_at ts s) (text_at ts t))
-order ts (Value.Text s) Value.Blank = Some (slice_cmp nat_cmp (text_at ts s) [])
-order ts Value.Blank (Value.Text t) = Some (slice_cmp nat_cmp [] (text_at ts t))
-order ts (Value.Bool x) (Value.Bool y) = Some (bool_order x y)
-order ts (Value.Bool x) Value.Blank = Some (bool_order x false)
-order ts Value.Blank (Value.Bool y) = Some (bool_order false y)
-order ts Value.Blank Value.Blank = Some Equal
-order ts _ _ = None
+order ts a b = class_order (class ts a) (class ts b)
 
 -- `=` between two values
 abbrev pub equals : Option Ordering → Bool
@@ -119,9 +138,7 @@ table ts Op2.Quotient a b = with_numbers quotient (as_number a) (as_number b)
 
 -- the same at any two values: an error is the answer, the left one before the right one
 abbrev pub binary_value : Texts → Op2 → Value → Value → Value
-binary_value ts op (Value.Error e) b = Value.Error e
-binary_value ts op a (Value.Error e) = Value.Error e
-binary_value ts op a b = table ts op a b
+binary_value ts op a b = if is_error a then a else if is_error b then b else table ts op a b
 
 abbrev pub with_number : (ℤ → Value) → Option ℤ → Value
 with_number f (Some x) = f x
@@ -135,8 +152,7 @@ sign_table Sign2.Abs a = with_number (λ x. number (pos (unsigned_abs x))) (as_n
 
 -- the same at any value: an error is the answer
 abbrev pub unary_value : Sign2 → Value → Value
-unary_value sign (Value.Error e) = Value.Error e
-unary_value sign a = sign_table sign a
+unary_value sign a = if is_error a then a else sign_table sign a
 
 -- what a condition takes a value as
 abbrev pub condition : Value → Result Bool Code

@@ -2,7 +2,7 @@
 
 ghost use Rattle.std.specs.Prelude.{◌≡◌};
 ghost use Rattle.builtin_functions.specs.Tables as spec;
-ghost use Rattle.builtin_functions.specs.Tables.{IsValueOf};
+ghost use Rattle.cell_values.specs.Values.{IsValueOf};
 
 use cell_values::{Code, Texts, Value};
 use std::cmp::Ordering;
@@ -25,7 +25,12 @@ pub(crate) fn order(a: Value, b: Value, texts: &Texts) -> Option<Ordering>
         (Value::Bool(x), Value::Blank) => Some(x.cmp(&false)),
         (Value::Blank, Value::Bool(y)) => Some(false.cmp(&y)),
         (Value::Blank, Value::Blank) => Some(Ordering::Equal),
-        _ => None,
+        (Value::Number(_), Value::Text(_) | Value::Bool(_) | Value::Error(_))
+        | (Value::Text(_), Value::Number(_) | Value::Bool(_) | Value::Error(_))
+        | (Value::Bool(_), Value::Number(_) | Value::Text(_) | Value::Error(_))
+        | (Value::Blank, Value::Error(_))
+        | (Value::Error(_), Value::Number(_) | Value::Text(_) | Value::Bool(_))
+        | (Value::Error(_), Value::Blank | Value::Error(_)) => None,
     }
 }
 

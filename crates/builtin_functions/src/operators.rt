@@ -5,8 +5,8 @@
 //! `#NUM!`. Comparisons order values of one kind, Blank beside each of them.
 
 ghost use Rattle.std.specs.Prelude.{◌≡◌, IsFalse};
+ghost use Rattle.cell_values.specs.Values.{IsValueOf, is_error};
 ghost use Rattle.builtin_functions.specs.Tables as spec;
-ghost use Rattle.builtin_functions.specs.Tables.{IsValueOf};
 
 use crate::arithmetic::{difference, modulo, negative, product, quotient, size, sum};
 use crate::comparisons::{equals, order, truth};
@@ -43,10 +43,12 @@ pub fn binary(op: Op2, a: Value, b: Value, texts: &Texts) -> Value
     requires right { IsValueOf texts.now b }
     ensures { result ≡ spec.binary_value texts.now op a b }
 {
-    match (a, b) {
-        (Value::Error(_), _) => a,
-        (_, Value::Error(_)) => b,
-        _ => table(op, a, b, texts),
+    if a.is_error() {
+        a
+    } else if b.is_error() {
+        b
+    } else {
+        table(op, a, b, texts)
     }
 }
 
@@ -54,12 +56,10 @@ pub fn binary(op: Op2, a: Value, b: Value, texts: &Texts) -> Value
 pub fn unary(sign: Sign2, a: Value) -> Value
     ensures { result ≡ spec.unary_value sign a }
 {
-    match a {
-        Value::Error(_) => a,
-        _ => match as_number(a) {
-            Some(x) => signed(sign, x),
-            None => Value::Error(Code::Value),
-        },
+    match a.as_number() {
+        Some(x) => signed(sign, x),
+        None if a.is_error() => a,
+        None => Value::Error(Code::Value),
     }
 }
 
@@ -67,8 +67,8 @@ pub fn unary(sign: Sign2, a: Value) -> Value
 pub fn same(a: Value, b: Value, texts: &Texts) -> bool
     requires left { IsValueOf texts.now a }
     requires right { IsValueOf texts.now b }
-    requires left_value { IsFalse (spec.is_error a) }
-    requires right_value { IsFalse (spec.is_error b) }
+    requires left_value { IsFalse (is_error a) }
+    requires right_value { IsFalse (is_error b) }
     ensures { result ≡ spec.same texts.now a b }
 {
     equals(order(a, b, texts))
@@ -93,7 +93,7 @@ fn table(op: Op2, a: Value, b: Value, texts: &Texts) -> Value
     requires right { IsValueOf texts.now b }
     ensures { result ≡ spec.table texts.now op a b }
 {
-    match (op, as_number(a), as_number(b)) {
+    match (op, a.as_number(), b.as_number()) {
         (Op2::Eq, _, _) => Value::Bool(equals(order(a, b, texts))),
         (Op2::Ne, _, _) => Value::Bool(!equals(order(a, b, texts))),
         (Op2::Lt, _, _) => truth(order(a, b, texts).map(|o| o.is_lt())),
@@ -105,7 +105,9 @@ fn table(op: Op2, a: Value, b: Value, texts: &Texts) -> Value
         (Op2::Mul, Some(x), Some(y)) => product(x, y),
         (Op2::Div | Op2::Quotient, Some(x), Some(y)) => quotient(x, y),
         (Op2::Mod, Some(x), Some(y)) => modulo(x, y),
-        _ => Value::Error(Code::Value),
+        (Op2::Add | Op2::Sub | Op2::Mul | Op2::Div | Op2::Quotient | Op2::Mod, _, _) => {
+            Value::Error(Code::Value)
+        }
     }
 }
 
@@ -117,16 +119,5 @@ fn signed(sign: Sign2, x: Int) -> Value
         Sign2::Minus => negative(x),
         Sign2::Plus => Value::Number(x),
         Sign2::Abs => size(x),
-    }
-}
-
-// What arithmetic takes a value as; Text and Bool have no number.
-fn as_number(v: Value) -> Option<Int>
-    ensures { result ≡ spec.as_number v }
-{
-    match v {
-        Value::Number(n) => Some(n),
-        Value::Blank => Some(0),
-        Value::Text(_) | Value::Bool(_) | Value::Error(_) => None,
     }
 }

@@ -1,7 +1,7 @@
 //! The tables, row by row, with answers worked out by hand.
 
 ghost use Rattle.cell_values.specs.Texts.{Texts, IsTextOf};
-ghost use Rattle.builtin_functions.specs.Tables.{IsValueOf};
+ghost use Rattle.cell_values.specs.Values.{IsValueOf};
 
 use crate::{Fold, FoldKind, Go, Op2, Sign2, binary, condition, same, unary};
 use cell_values::{Code, INT_MAX, INT_MIN, TextId, Texts, Value};
@@ -138,6 +138,33 @@ fn operators_answer_by_their_tables(rt: HostRuntime) -> Result<(), Fail> {
         has_answers(&rt, op, grid, &texts, text);
     }
     Ok(())
+}
+
+#[test]
+fn results_beyond_64_bits_are_exact(rt: HostRuntime) {
+    let texts = Texts::new(rt.alloc());
+    let greatest_of_64 = 9_223_372_036_854_775_807;
+    let rows = [
+        (Op2::Add, greatest_of_64, 1, 9_223_372_036_854_775_808),
+        (Op2::Sub, -greatest_of_64, 2, -9_223_372_036_854_775_809),
+        (
+            Op2::Mul,
+            greatest_of_64,
+            greatest_of_64,
+            85_070_591_730_234_615_847_396_907_784_232_501_249,
+        ),
+        (Op2::Mod, INT_MIN, greatest_of_64, 9_223_372_036_854_775_805),
+        (
+            Op2::Quotient,
+            INT_MIN,
+            greatest_of_64,
+            -18_446_744_073_709_551_618,
+        ),
+    ];
+    for (op, x, y, want) in rows {
+        let answer = binary(op, Value::Number(x), Value::Number(y), &texts);
+        assert_eq!(rt; answer, Value::Number(want), "{op:?} at {x} and {y}");
+    }
 }
 
 #[test]

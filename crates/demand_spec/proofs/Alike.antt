@@ -13,7 +13,8 @@ use Rattle.formula_trees.specs.declared.tree.Fun.{Fun}
 use Rattle.formula_trees.specs.Expr.{Expr, Exprs, Number, Text, Truth, Ref, Range, RefError, Unary, Binary, Call, End, More}
 use Rattle.demand_spec.specs.Plan.{Plan, Give, Demand, and_then}
 use Rattle.cell_values.specs.Texts.{Texts}
-use Rattle.builtin_functions.specs.Tables.{number, is_error, is_zero, as_number, quotient, with_sign_of, modulo, with_numbers, with_number, order, ordered, table, sign_table, condition}
+use Rattle.builtin_functions.specs.Tables.{number, is_zero, quotient, with_sign_of, modulo, with_numbers, with_number, Class, class, class_order, order, ordered, table, sign_table, condition}
+use Rattle.cell_values.specs.Values.{is_error, as_number}
 use Rattle.builtin_functions.specs.declared.operators.Op2.{Op2}
 use Rattle.builtin_functions.specs.declared.operators.Sign2.{Sign2}
 use Rattle.builtin_functions.specs.declared.folds.FoldKind.{FoldKind}
@@ -25,7 +26,8 @@ use Rattle.builtin_functions.specs.Folds.{Total, taken}
 use Rattle.demand_spec.specs.Laws.{In}
 use Rattle.formula_trees.specs.TextNumbers.{TextsBelow, AllTextsBelow}
 use Rattle.demand_spec.specs.TextNumbers.{TextBelow}
-use Rattle.demand_spec.proofs.Walks.{in_left, in_right, in_walk, walk_one, in_column, in_row, length-numbers_from}
+use Rattle.demand_spec.proofs.Walks.{in_left, in_right, in_walk, walk_one, in_column, in_row}
+use Rattle.cell_values.proofs.Walking.{length-numbers_from}
 
 -- Two plans that demand the same cells, all in the list, and give the same, as long as each text has a number of which n holds.
 abbrev pub Alike : List Addr → (ℕ → Type 0) → Plan → Plan → Type 0
@@ -220,29 +222,17 @@ sign_below n Sign2.Abs a = with_number_below n _ (λ x. number_below n _) (as_nu
 abbrev pub SameTexts : (ℕ → Type 0) → Texts → Texts → Type 0
 SameTexts n ts us = (i : ℕ) → n i → slice_index_or ts i [] ≡ slice_index_or us i []
 
+-- a value that means the same text is compared as the same
+class_alike : (n : ℕ → Type 0) (ts us : Texts) → SameTexts n ts us → (a : Value) → TextBelow n a → class ts a ≡ class us a
+class_alike n ts us h (Value.Text t) p = ap Class.Text (h t.0 p)
+class_alike n ts us h (Value.Number x) p = refl
+class_alike n ts us h (Value.Bool x) p = refl
+class_alike n ts us h Value.Blank p = refl
+class_alike n ts us h (Value.Error e) p = refl
+
 order_alike : (n : ℕ → Type 0) (ts us : Texts) → SameTexts n ts us → (a b : Value) → TextBelow n a → TextBelow n b → order ts a b ≡ order us a b
 unfolding order
-order_alike n ts us h (Value.Text s) (Value.Text t) p q = rw (h s.0 p, h t.0 q) refl
-order_alike n ts us h (Value.Text s) Value.Blank p q = rw (h s.0 p) refl
-order_alike n ts us h Value.Blank (Value.Text t) p q = rw (h t.0 q) refl
-order_alike n ts us h (Value.Text s) (Value.Number y) p q = refl
-order_alike n ts us h (Value.Text s) (Value.Bool y) p q = refl
-order_alike n ts us h (Value.Text s) (Value.Error y) p q = refl
-order_alike n ts us h Value.Blank (Value.Number y) p q = refl
-order_alike n ts us h Value.Blank (Value.Bool y) p q = refl
-order_alike n ts us h Value.Blank (Value.Error y) p q = refl
-order_alike n ts us h Value.Blank Value.Blank p q = refl
-order_alike n ts us h (Value.Number x) (Value.Number y) p q = refl
-order_alike n ts us h (Value.Number x) Value.Blank p q = refl
-order_alike n ts us h (Value.Number x) (Value.Text y) p q = refl
-order_alike n ts us h (Value.Number x) (Value.Bool y) p q = refl
-order_alike n ts us h (Value.Number x) (Value.Error y) p q = refl
-order_alike n ts us h (Value.Bool x) (Value.Number y) p q = refl
-order_alike n ts us h (Value.Bool x) Value.Blank p q = refl
-order_alike n ts us h (Value.Bool x) (Value.Text y) p q = refl
-order_alike n ts us h (Value.Bool x) (Value.Bool y) p q = refl
-order_alike n ts us h (Value.Bool x) (Value.Error y) p q = refl
-order_alike n ts us h (Value.Error x) b p q = refl
+order_alike n ts us h a b p q = λ i. class_order (class_alike n ts us h a p i) (class_alike n ts us h b q i)
 
 table_alike : (n : ℕ → Type 0) (ts us : Texts) → SameTexts n ts us → (o : Op2) (a b : Value) → TextBelow n a → TextBelow n b → table ts o a b ≡ table us o a b
 table_alike n ts us h Op2.Eq a b p q = rw (order_alike n ts us h a b p q) refl

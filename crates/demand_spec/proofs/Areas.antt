@@ -13,7 +13,8 @@ use Rattle.demand_spec.specs.declared.Asked.{Asked}
 use Rattle.demand_spec.specs.declared.Asked.TheVariants.{Val, Needs}
 use Rattle.demand_spec.specs.Formula.{is_found}
 use Rattle.demand_spec.specs.Asks.{and_on, any_value, or_fails, fold_looks, search_looks}
-use Rattle.demand_spec.proofs.Walks.{numbers_more, numbers_all, length-numbers_from}
+use Rattle.demand_spec.proofs.Walks.{numbers_more, numbers_all}
+use Rattle.cell_values.proofs.Walking.{length-numbers_from}
 
 -- a fold over one list and then another
 fold_looks-append : (l : Addr → Asked) (k : FoldKind) (ys xs : List Addr) (t : Total) → fold_looks l k t (xs ++ ys) ≡ and_on (fold_looks l k t xs) (λ u. fold_looks l k u ys)

@@ -14,7 +14,8 @@ use Rattle.formula_trees.specs.Mentions.{Place, Nowhere, Bad, Cells, place_of}
 use Rattle.builtin_functions.specs.declared.operators.Op2.{Op2}
 use Rattle.builtin_functions.specs.declared.operators.Sign2.{Sign2}
 use Rattle.builtin_functions.specs.declared.folds.FoldKind.{FoldKind}
-use Rattle.builtin_functions.specs.Tables.{table, sign_table, unary_value, binary_value, condition, as_number, is_error}
+use Rattle.builtin_functions.specs.Tables.{table, sign_table, unary_value, binary_value, condition}
+use Rattle.cell_values.specs.Values.{as_number, is_error}
 use Rattle.builtin_functions.specs.Folds.{Total, taken}
 use Rattle.demand_spec.specs.declared.Asked.{Asked}
 use Rattle.demand_spec.specs.declared.Asked.TheVariants.{Val, Needs}

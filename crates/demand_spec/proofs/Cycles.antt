@@ -1,14 +1,19 @@
 -- What the test for a loop finds, and what a cell on one shows.
-use Rattle.std.proofs.Common.{◌≡◌, ℕ, zero, suc, ◌<◌, ◌≤◌, Bool, true, false, ◌⊎◌, inl, inr, ⊎_elim, List, [], ◌∷◌, length, get_or, refl, sym, ap, ◌∙◌, subst, Option, Some, None, option_and_then, arith}
-use Rattle.std.proofs.lemmas.Bool.{cases_Bool, or_cases, or_left, or_right}
+use Rattle.std.proofs.Common.{◌≡◌, ◌≢◌, ℕ, zero, suc, ◌<◌, ◌≤◌, Bool, true, false, cond, ◌⊎◌, inl, inr, ⊎_elim, List, [], ◌∷◌, length, get_or, refl, sym, ap, ◌∙◌, subst, Option, Some, None, option_and_then, arith}
+use Rattle.std.specs.Option.{option_or}
+use Rattle.std.proofs.lemmas.Bool.{cases_Bool, cases_eq}
 use Rattle.std.proofs.lemmas.List.{get_or_past}
 use Rattle.cell_values.specs.declared.address.Addr.{Addr}
 use Rattle.cell_values.specs.declared.values.Shown.{Shown}
-use Rattle.formula_trees.specs.Expr.{Expr}
+use Rattle.cell_values.specs.declared.values.Value.{Value}
 use Rattle.cell_values.specs.Addresses.{same_addr}
-use Rattle.demand_spec.specs.Book.{Book, formula_at, ask_formula, ask_cell, cell_needed, formulas, finished, need, follow, is_at, returns, shown}
-use Rattle.demand_spec.specs.Laws.{In, Unfinished, NeedChain, Distinct, OnLoop, LoopsAreFound}
-use Rattle.demand_spec.proofs.Rounds.{same_addr-true, same_addr-refl, in_formulas}
+use Rattle.cell_values.proofs.Order.{same_addr-true, same_addr-refl}
+use Rattle.formula_trees.specs.Expr.{Expr}
+use Rattle.demand_spec.specs.declared.Asked.{Asked}
+use Rattle.demand_spec.specs.declared.Asked.TheVariants.{Val, Needs}
+use Rattle.demand_spec.specs.Book.{Book, Known, formula_at, own, ask_formula, ask_cell, cell_needed, value_given, formulas, finished, need, follow, is_at, period, shown, shown_from}
+use Rattle.demand_spec.specs.Laws.{In, Unfinished, NeedChain, Distinct, HasPeriod, OnLoop, LoopsAreFound, CyclesShow, LoopShows, OthersLead, ValuesShow}
+use Rattle.demand_spec.proofs.Rounds.{in_formulas, finished_again}
 use Rattle.demand_spec.proofs.Loops.{follow_from, chain_follow}
 
 -- distinct members of a list are no more than the list
@@ -106,44 +111,146 @@ back_within b c (suc j) l h =
       back = chain_follow b (c ∷ s.rest) c s.steps (length (c ∷ s.rest)) (omega arith) ∙ ap Some (get_or_past (c ∷ s.rest) (length (c ∷ s.rest)) c (omega arith));
     }
 
-returns_from : (b : Book) (c : Addr) (n m : ℕ) → 0 < m → m ≤ n → follow b m c ≡ Some c → returns b n c ≡ true
-returns_from b c zero m l h e = absurd (omega arith)
-returns_from b c (suc n) m l h e =
-    ⊎_elim (λ (k : m ≤ n). or_left (returns b n c) (is_at c (follow b (suc n) c)) (returns_from b c n m l k e))
-    (λ (k : m ≡ suc n). or_right (returns b n c) (is_at c (follow b (suc n) c)) (subst (λ z. is_at c z ≡ true) (sym (subst (λ z. follow b z c ≡ Some c) k e)) (same_addr-refl c)))
-    (le_or m n h)
-  where
-    le_or : (m n : ℕ) → m ≤ suc n → (m ≤ n) ⊎ (m ≡ suc n)
-    le_or m n h = grind arith
+-- the least number of steps back
 
 at_same : (c : Addr) (o : Option Addr) → is_at c o ≡ true → o ≡ Some c
 at_same c (Some x) h = ap Some (sym (same_addr-true c x h))
 at_same c None h = cc
 
-returns_back : (b : Book) (c : Addr) (n : ℕ) → returns b n c ≡ true → OnLoop b c
-returns_back b c zero h = cc
-returns_back b c (suc n) h = ⊎_elim (λ (k : returns b n c ≡ true). returns_back b c n k) (λ (k : is_at c (follow b (suc n) c) ≡ true). (suc n, omega arith, at_same c (follow b (suc n) c) k)) (or_cases (returns b n c) (is_at c (follow b (suc n) c)) h)
+-- where none of 1 to `n` steps is found, none comes back
+pub period_none : (b : Book) (n : ℕ) (c : Addr) → period b n c ≡ None → (j : ℕ) → 0 < j → j ≤ n → follow b j c ≡ Some c → ⊥
+period_none b zero c e j p l f = absurd (omega arith)
+period_none b (suc n) c e j p l f = go (λ q k. period_none b n c q j p k f) (period b n c) refl (is_at c (follow b (suc n) c)) refl e
+  where
+    go : (period b n c ≡ None → j ≤ n → ⊥) → (o : Option ℕ) → period b n c ≡ o → (t : Bool) → is_at c (follow b (suc n) c) ≡ t → option_or o (cond t (Some (suc n)) None) ≡ None → ⊥
+    go later (Some m) q t s d = cc
+    go later None q true s d = cc
+    go later None q false s d = ⊎_elim
+        (λ (h : j ≡ suc n).
+        let back : follow b (suc n) c ≡ Some c = subst (λ z. follow b z c ≡ Some c) h f in
+        let a : is_at c (follow b (suc n) c) ≡ true = ap (is_at c) back ∙ same_addr-refl c in
+        let clash : true ≡ false = sym a ∙ s in
+        cc)
+        (λ (h : j ≢ suc n). later q (omega arith))
+        (cases_eq j (suc n))
+
+-- what is found is the least
+pub period_is : (b : Book) (n : ℕ) (c : Addr) (m : ℕ) → period b n c ≡ Some m → HasPeriod b c m
+period_is b zero c m e = cc
+period_is b (suc n) c m e = go (period_is b n c m) (period b n c) refl (is_at c (follow b (suc n) c)) refl e
+  where
+    go : (period b n c ≡ Some m → HasPeriod b c m) → (o : Option ℕ) → period b n c ≡ o → (t : Bool) → is_at c (follow b (suc n) c) ≡ t → option_or o (cond t (Some (suc n)) None) ≡ Some m → HasPeriod b c m
+    go later (Some x) q t s d = later (q ∙ d)
+    go later None q false s d = cc
+    go later None q true s d =
+        let same : suc n ≡ m = cc in
+        subst (HasPeriod b c) same (record { some = omega arith; back = at_same c (follow b (suc n) c) s; first = λ j p l f. period_none b n c q j p (omega arith) f })
+
+-- a cell has one period at most
+pub one_period : (b : Book) (c : Addr) (n m : ℕ) → HasPeriod b c n → HasPeriod b c m → n ≡ m
+one_period b c n m h k =
+    let below : n < m → ⊥ = λ l. k.first n h.some l h.back in
+    let above : m < n → ⊥ = λ l. h.first m k.some l k.back in
+    omega arith
+
+-- a search that goes far enough finds a cell on a loop
+found_within : (b : Book) (c : Addr) (m : ℕ) → length (formulas b) ≤ m → OnLoop b c → period b m c ≡ None → ⊥
+found_within b c m l o e = (let w = back_within b c o.0 o.1 o.2 in period_none b m c e w.steps w.some (omega (arith, w.within)) w.back)
+
+on_loop : (b : Book) (c : Addr) (n : ℕ) → HasPeriod b c n → OnLoop b c
+on_loop b c n h = (n, h.some, h.back)
 
 pub loops_are_found : LoopsAreFound
-loops_are_found b c = (returns_back b c (length (formulas b)), λ l. let w = back_within b c l.0 l.1 l.2 in returns_from b c (length (formulas b)) w.steps w.some w.within w.back)
+loops_are_found b c n = (period_is b (length (formulas b)) c n, λ h. go h (period b (length (formulas b)) c) refl)
+  where
+    go : HasPeriod b c n → (o : Option ℕ) → period b (length (formulas b)) c ≡ o → period b (length (formulas b)) c ≡ Some n
+    go h (Some m) q = q ∙ ap Some (one_period b c m n (period_is b (length (formulas b)) c m q) h)
+    go h None q = absurd (found_within b c (length (formulas b)) (omega arith) (on_loop b c n h) q)
+
+-- a cell on a loop has a period
+pub loop_period : (b : Book) (c : Addr) → OnLoop b c → (n : ℕ) × HasPeriod b c n
+loop_period b c l = go (period b (length (formulas b)) c) refl
+  where
+    go : (o : Option ℕ) → period b (length (formulas b)) c ≡ o → (n : ℕ) × HasPeriod b c n
+    go (Some n) q = (n, period_is b (length (formulas b)) c n q)
+    go None q = absurd (found_within b c (length (formulas b)) (omega arith) l q)
+
+-- a longer search finds no more
+pub period_enough : (b : Book) (c : Addr) (m : ℕ) → length (formulas b) ≤ m → period b m c ≡ period b (length (formulas b)) c
+period_enough b c m l = go (period b m c) refl (period b (length (formulas b)) c) refl
+  where
+    go : (o : Option ℕ) → period b m c ≡ o → (p : Option ℕ) → period b (length (formulas b)) c ≡ p → period b m c ≡ period b (length (formulas b)) c
+    go (Some n) e p f = e ∙ sym ((loops_are_found b c n).1 (period_is b m c n e))
+    go None e None f = e ∙ sym f
+    go None e (Some n) f = absurd (found_within b c m l (on_loop b c n (period_is b (length (formulas b)) c n f)) e)
 
 -- what an unfinished cell shows
 
-pub shown_cycle : (b : Book) (c : Addr) → Unfinished b c → OnLoop b c → shown b c ≡ Shown.Cycle
+pub shown_cycle : (b : Book) (c : Addr) (n : ℕ) → Unfinished b c → HasPeriod b c n → shown b c ≡ Shown.Cycle n
 unfolding shown
-shown_cycle b c u l = rw (u.is_formula, u.outside, (loops_are_found b c).1 l) refl
+shown_cycle b c n u h = rw (u.is_formula, u.outside, (loops_are_found b c n).1 h) refl
+
+no_period : (b : Book) (c : Addr) → (OnLoop b c → ⊥) → period b (length (formulas b)) c ≡ None
+no_period b c h = go (period b (length (formulas b)) c) refl
+  where
+    go : (o : Option ℕ) → period b (length (formulas b)) c ≡ o → period b (length (formulas b)) c ≡ None
+    go (Some n) q = absurd (h (on_loop b c n (period_is b (length (formulas b)) c n q)))
+    go None q = q
 
 pub shown_to_cycle : (b : Book) (c : Addr) → Unfinished b c → (OnLoop b c → ⊥) → shown b c ≡ Shown.ToCycle
 unfolding shown
-shown_to_cycle b c u l = ⊎_elim (λ (k : returns b (length (formulas b)) c ≡ true). absurd (l ((loops_are_found b c).0 k))) (λ (k : returns b (length (formulas b)) c ≡ false). rw (u.is_formula, u.outside, k) refl) (cases_Bool (returns b (length (formulas b)) c))
+shown_to_cycle b c u l = rw (u.is_formula, u.outside, no_period b c l) refl
 
--- a longer search finds no more
-pub returns_enough : (b : Book) (c : Addr) (m : ℕ) → length (formulas b) ≤ m → returns b m c ≡ returns b (length (formulas b)) c
-returns_enough b c m l = both_or_none (returns b m c) (returns b (length (formulas b)) c)
-    (λ e. (loops_are_found b c).1 (returns_back b c m e))
-    (λ e. let w = back_within b c ((loops_are_found b c).0 e).0 ((loops_are_found b c).0 e).1 ((loops_are_found b c).0 e).2 in returns_from b c m w.steps w.some (omega (arith, w.within)) w.back)
+-- a cell that needs another one is an unfinished formula cell
+pub needs_unfinished : (b : Book) (c x : Addr) → need b c ≡ Some x → Unfinished b c
+unfolding need
+needs_unfinished b c x h =
+    let f = needs_formula b c x h in
+    record { tree = f.0; is_formula = f.1; outside = sym (ap (λ (e : Known). e c) (finished_again b)) ∙ none (ask_cell b (finished b) c) h }
   where
-    both_or_none : (x y : Bool) → (x ≡ true → y ≡ true) → (y ≡ true → x ≡ true) → x ≡ y
-    both_or_none true y h k = sym (h refl)
-    both_or_none false true h k = k refl
-    both_or_none false false h k = refl
+    none : (o : Option Asked) → cell_needed o ≡ Some x → value_given o ≡ None
+    none (Some (Val v)) k = cc
+    none (Some (Needs y)) k = refl
+    none None k = refl
+
+period_unfinished : (b : Book) (c : Addr) (n : ℕ) → HasPeriod b c n → Unfinished b c
+period_unfinished b c zero h = absurd (omega (arith, h.some))
+period_unfinished b c (suc n) h = go (need b c) refl
+  where
+    go : (o : Option Addr) → need b c ≡ o → Unfinished b c
+    go (Some x) q = needs_unfinished b c x q
+    go None q = (let e : None ≡ Some c = sym (follow_none b c q n) ∙ h.back in cc)
+
+-- the laws on what cells show
+
+pub cycles_show : CyclesShow
+unfolding shown
+cycles_show b c n = (λ e. (loops_are_found b c n).0 (go (formula_at b c) (finished b c) (period b (length (formulas b)) c) e), λ h. shown_cycle b c n (period_unfinished b c n h) h)
+  where
+    go : (t : Option Expr) (f : Option Value) (p : Option ℕ) → shown_from t (own b c) f p ≡ Shown.Cycle n → p ≡ Some n
+    go None f p e = cc
+    go (Some t) (Some v) p e = cc
+    go (Some t) None None e = cc
+    go (Some t) None (Some m) e = (let same : m ≡ n = cc in ap Some same)
+
+pub loop_shows : LoopShows
+loop_shows b s rest h c k = shown_cycle b c (length (s ∷ rest)) (h.unfinished c k) (h.period c k)
+
+pub others_lead : OthersLead
+unfolding shown
+others_lead b c = (λ e. go (formula_at b c) refl (finished b c) refl (period b (length (formulas b)) c) refl e, λ u. shown_to_cycle b c u.0 u.1)
+  where
+    go : (t : Option Expr) → formula_at b c ≡ t → (f : Option Value) → finished b c ≡ f → (p : Option ℕ) → period b (length (formulas b)) c ≡ p → shown_from t (own b c) f p ≡ Shown.ToCycle → Unfinished b c × (OnLoop b c → ⊥)
+    go None x f y p z e = cc
+    go (Some t) x (Some v) y p z e = cc
+    go (Some t) x None y (Some m) z e = cc
+    go (Some t) x None y None z e = (record { tree = t; is_formula = x; outside = y }, λ l. found_within b c (length (formulas b)) (omega arith) l z)
+
+pub values_show : ValuesShow
+unfolding shown
+values_show b c t v h = (λ e. go (finished b c) (period b (length (formulas b)) c) (subst (λ o. shown_from o (own b c) (finished b c) (period b (length (formulas b)) c) ≡ Shown.Val v) h e), λ e. rw (h, e) refl)
+  where
+    go : (f : Option Value) (p : Option ℕ) → shown_from (Some t) (own b c) f p ≡ Shown.Val v → f ≡ Some v
+    go (Some w) p e = (let same : w ≡ v = cc in ap Some same)
+    go None (Some m) e = cc
+    go None None e = cc

@@ -11,8 +11,8 @@ use Rattle.demand_spec.specs.Formula.{plan}
 use Rattle.formula_trees.specs.Mentions.{mentions}
 use Rattle.formula_trees.specs.TextNumbers.{TextsBelow, AllTextsBelow}
 use Rattle.demand_spec.specs.TextNumbers.{TextBelow}
-use Rattle.demand_spec.specs.Book.{Book, Known, formula_at, own, look_at, look, ask, ask_formula, ask_cell, value_given, cell_needed, round, rounds, formulas, finished, need, follow, returns, shown, shown_from}
-use Rattle.demand_spec.specs.Laws.{In, Unfinished, IsLoop, Mentions, NeedIsMentioned, NeedIsThere, IsClosed, Reached, start, step, Pending, Set, OfSet, SameOutside, TextsStay, PendingIsClosed, LoopInClosed, ShowsSame}
+use Rattle.demand_spec.specs.Book.{Book, Known, formula_at, own, look_at, look, ask, ask_formula, ask_cell, value_given, cell_needed, round, rounds, formulas, finished, need, follow, period, shown, shown_from}
+use Rattle.demand_spec.specs.Laws.{In, Unfinished, HasPeriod, IsLoop, Mentions, NeedIsMentioned, NeedIsThere, IsClosed, Reached, start, step, Pending, Set, OfSet, SameOutside, TextsStay, PendingIsClosed, LoopInClosed, ShowsSame}
 use Rattle.demand_spec.proofs.Rounds.{Lacks, look_lacks, finished_again, rounds_stay}
 use Rattle.demand_spec.proofs.Loops.{chain_follow, index_of, follow_then}
 use Rattle.demand_spec.proofs.Cycles.{loops_are_found}
@@ -256,15 +256,20 @@ module _ (b b' : Book) (meant : ℕ → Type 0) (A : Addr → Type 0) (s : SameO
       later (Some y) h x e = free_mentioned y x (h y refl) (need_is_mentioned b' y x e).0
       later None h x e = cc
 
-  loop_same : (c : Addr) → Free c → returns b (length (formulas b)) c ≡ returns b' (length (formulas b')) c
-  loop_same c free = both_or_none (returns b (length (formulas b)) c) (returns b' (length (formulas b')) c)
-      (λ e. let l = (loops_are_found b c).0 e in (loops_are_found b' c).1 (l.0, l.1, sym (followed l.0 c free).same ∙ l.2))
-      (λ e. let l = (loops_are_found b' c).0 e in (loops_are_found b c).1 (l.0, l.1, (followed l.0 c free).same ∙ l.2))
+  -- the cell has the same period in both books
+  period_there : (c : Addr) → Free c → (n : ℕ) → HasPeriod b c n → HasPeriod b' c n
+  period_there c free n h = record { some = h.some; back = sym (followed n c free).same ∙ h.back; first = λ j p l e. h.first j p l ((followed j c free).same ∙ e) }
+
+  period_here : (c : Addr) → Free c → (n : ℕ) → HasPeriod b' c n → HasPeriod b c n
+  period_here c free n h = record { some = h.some; back = (followed n c free).same ∙ h.back; first = λ j p l e. h.first j p l (sym (followed j c free).same ∙ e) }
+
+  loop_same : (c : Addr) → Free c → period b (length (formulas b)) c ≡ period b' (length (formulas b')) c
+  loop_same c free = go (period b (length (formulas b)) c) refl (period b' (length (formulas b')) c) refl
     where
-      both_or_none : (x y : Bool) → (x ≡ true → y ≡ true) → (y ≡ true → x ≡ true) → x ≡ y
-      both_or_none true y h k = sym (h refl)
-      both_or_none false true h k = k refl
-      both_or_none false false h k = refl
+      go : (o : Option ℕ) → period b (length (formulas b)) c ≡ o → (p : Option ℕ) → period b' (length (formulas b')) c ≡ p → period b (length (formulas b)) c ≡ period b' (length (formulas b')) c
+      go (Some n) e p f = e ∙ sym ((loops_are_found b' c n).1 (period_there c free n ((loops_are_found b c n).0 e)))
+      go None e (Some n) f = (loops_are_found b c n).1 (period_here c free n ((loops_are_found b' c n).0 f)) ∙ sym f
+      go None e None f = e ∙ sym f
 
   shown_same : (c : Addr) → Free c → shown b c ≡ shown b' c
   unfolding shown

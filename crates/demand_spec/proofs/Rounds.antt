@@ -1,4 +1,5 @@
 -- Rounds grow, and end after as many rounds as there are formula cells.
+use Rattle.cell_values.proofs.Order.{same_addr-true}
 use Rattle.std.proofs.Common.{◌≡◌, ℕ, zero, suc, ◌+◌, ◌<◌, ◌≤◌, Bool, true, false, cond, ◌&&◌, ◌⊎◌, inl, inr, ⊎_elim, List, [], ◌∷◌, length, refl, sym, ap, ◌∙◌, subst, Option, Some, None, eqb, arith}
 use Rattle.std.proofs.lemmas.Bool.{and_parts, eqb-true, eq-eqb, and_from}
 use Rattle.cell_values.specs.declared.address.Addr.{Addr}
@@ -8,23 +9,10 @@ use Rattle.demand_spec.specs.declared.Asked.TheVariants.{Val, Needs}
 use Rattle.formula_trees.specs.Expr.{Expr}
 use Rattle.cell_values.specs.Addresses.{same_addr}
 use Rattle.demand_spec.specs.Formula.{plan}
-use Rattle.demand_spec.specs.Book.{Book, Content, Number, Text, Truth, Formula, Known, cell_in, formula_of, formula_at, own, look_at, look, ask, ask_formula, ask_cell, value_given, round, rounds, with_formula, formulas_in, formulas, finished}
+use Rattle.demand_spec.specs.Book.{Book, Content, Number, Text, Truth, Formula, Known, formula_of, formula_at, own, look_at, look, ask, ask_formula, ask_cell, value_given, round, rounds, with_formula, formulas_in, formulas, finished}
+use Rattle.cell_values.specs.Order.{entry_at}
 use Rattle.demand_spec.specs.Laws.{PartOf, AskGrows, In, RoundsEnd}
 use Rattle.demand_spec.proofs.Plans.{KeepsValues, run_value, run_needs}
-
--- addresses
-
-pub same_addr-true : (a b : Addr) → same_addr a b ≡ true → a ≡ b
-same_addr-true a b e =
-    let p = and_parts (eqb a.sheet b.sheet) (eqb a.row b.row && eqb a.col b.col) e in
-    let q = and_parts (eqb a.row b.row) (eqb a.col b.col) p.1 in
-    let s = eqb-true a.sheet b.sheet p.0 in
-    let r = eqb-true a.row b.row q.0 in
-    let c = eqb-true a.col b.col q.1 in
-    λ i. record { sheet = s i; row = r i; col = c i }
-
-pub same_addr-refl : (a : Addr) → same_addr a a ≡ true
-same_addr-refl a = and_from (eqb a.sheet a.sheet) (eqb a.row a.row && eqb a.col a.col) (eq-eqb a.sheet a.sheet refl) (and_from (eqb a.row a.row) (eqb a.col a.col) (eq-eqb a.row a.row refl) (eq-eqb a.col a.col refl))
 
 -- looks
 
@@ -134,7 +122,7 @@ same_or_more e f h (c ∷ cs) = one_step e f c cs (e c) (f c) refl refl (h c) (s
 
 -- each formula cell is in the list
 
-in_formulas_of : (cs : List (Addr × Content)) (a : Addr) (t : Expr) → formula_of (cell_in cs a) ≡ Some t → In a (formulas_in cs)
+in_formulas_of : (cs : List (Addr × Content)) (a : Addr) (t : Expr) → formula_of (entry_at cs a) ≡ Some t → In a (formulas_in cs)
 in_formulas_of [] a t h = cc
 in_formulas_of (c ∷ cs) a t h = by_test (same_addr a c.0) refl h (c.1) refl (in_formulas_of cs a t)
   where
@@ -150,7 +138,7 @@ in_formulas_of (c ∷ cs) a t h = by_test (same_addr a c.0) refl h (c.1) refl (i
     later (Text n) k = k
     later (Truth n) k = k
 
-    by_test : (b : Bool) → same_addr a c.0 ≡ b → formula_of (cond b (Some c.1) (cell_in cs a)) ≡ Some t → (d : Content) → c.1 ≡ d → (formula_of (cell_in cs a) ≡ Some t → In a (formulas_in cs)) → In a (with_formula c.0 d (formulas_in cs))
+    by_test : (b : Bool) → same_addr a c.0 ≡ b → formula_of (cond b (Some c.1) (entry_at cs a)) ≡ Some t → (d : Content) → c.1 ≡ d → (formula_of (entry_at cs a) ≡ Some t → In a (formulas_in cs)) → In a (with_formula c.0 d (formulas_in cs))
     by_test true q p d r k = by_content d (subst (λ z. formula_of (Some z) ≡ Some t) r p) (same_addr-true a c.0 q)
     by_test false q p d r k = later d (k p)
 

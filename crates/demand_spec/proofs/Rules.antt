@@ -12,7 +12,7 @@ use Rattle.builtin_functions.specs.declared.folds.FoldKind.{FoldKind}
 use Rattle.builtin_functions.specs.declared.operators.Op2.{Op2}
 use Rattle.builtin_functions.specs.declared.operators.Sign2.{Sign2}
 use Rattle.builtin_functions.specs.Folds.{Total}
-use Rattle.builtin_functions.specs.Tables.{IsValueOf, as_number}
+use Rattle.cell_values.specs.Values.{IsValueOf, as_number}
 use Rattle.demand_spec.specs.declared.Asked.{Asked}
 use Rattle.demand_spec.specs.declared.Asked.TheVariants.{Val, Needs}
 use Rattle.demand_spec.specs.declared.given.Argument.{Argument}

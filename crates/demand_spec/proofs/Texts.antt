@@ -6,15 +6,16 @@ use Rattle.cell_values.specs.Addresses.{same_addr}
 use Rattle.cell_values.specs.Texts.{Texts}
 use Rattle.formula_trees.specs.Expr.{Expr}
 use Rattle.formula_trees.specs.Mentions.{mentions}
-use Rattle.builtin_functions.specs.Tables.{IsValueOf}
+use Rattle.cell_values.specs.Values.{IsValueOf}
 use Rattle.demand_spec.specs.declared.Asked.{Asked}
 use Rattle.demand_spec.specs.declared.Asked.TheVariants.{Val, Needs}
 use Rattle.demand_spec.specs.Plan.{Plan, Give, Demand, after, run}
 use Rattle.demand_spec.specs.Formula.{plan}
-use Rattle.demand_spec.specs.Book.{Book, Content, Known, cell_in, formula_of, own_of, formula_at, own, look_at, look, ask, ask_formula, ask_cell, value_given, formulas, finished, rounds}
+use Rattle.demand_spec.specs.Book.{Book, Content, Known, formula_of, own_of, formula_at, own, look_at, look, ask, ask_formula, ask_cell, value_given, formulas, finished, rounds}
+use Rattle.cell_values.specs.Order.{entry_at}
 use Rattle.formula_trees.specs.TextNumbers.{TextsBelow}
 use Rattle.demand_spec.specs.TextNumbers.{TextBelow}
-use Rattle.demand_spec.specs.Listed.{value_in, IsFormulaOf, IsContentOf, AreCellsOf, AreKnownOf}
+use Rattle.demand_spec.specs.Listed.{IsFormulaOf, IsContentOf, AreCellsOf, AreKnownOf}
 use Rattle.demand_spec.specs.Asks.{any_value, value_or_end}
 use Rattle.demand_spec.specs.Given.{IsAnswerOf}
 use Rattle.demand_spec.specs.Stage.{Sight, IsSight, book_with, look_on, ask_on}
@@ -22,23 +23,23 @@ use Rattle.demand_spec.proofs.Alike.{Alike, plan_alike}
 
 -- a cell's content, and a known value
 
-pub content_text : (ts : Texts) (cs : List (Addr × Content)) (a : Addr) → AreCellsOf ts cs → (x : Content) → cell_in cs a ≡ Some x → IsContentOf ts x
+pub content_text : (ts : Texts) (cs : List (Addr × Content)) (a : Addr) → AreCellsOf ts cs → (x : Content) → entry_at cs a ≡ Some x → IsContentOf ts x
 content_text ts [] a h x e = cc
 content_text ts (c ∷ cs) a h x e = go (same_addr a c.0) e (content_text ts cs a h.1 x)
   where
-    go : (q : Bool) → cond q (Some c.1) (cell_in cs a) ≡ Some x → (cell_in cs a ≡ Some x → IsContentOf ts x) → IsContentOf ts x
+    go : (q : Bool) → cond q (Some c.1) (entry_at cs a) ≡ Some x → (entry_at cs a ≡ Some x → IsContentOf ts x) → IsContentOf ts x
     go true e k = (let same : c.1 ≡ x = cc in subst (IsContentOf ts) same h.0)
     go false e k = k e
 
 look_below : (cells : List (Addr × Content)) (ts : Texts) (e : Known) → AreCellsOf ts cells → AreKnownOf ts e → (a : Addr) (v : Value) → look (book_with cells ts) e a ≡ Val v → IsValueOf ts v
 unfolding formula_at own
-look_below cells ts e h k a v q = by_cell (cell_in cells a) refl q
+look_below cells ts e h k a v q = by_cell (entry_at cells a) refl q
   where
     by_known : (t : Expr) (o : Option Value) → e a ≡ o → look_at (Some t) Value.Blank o a ≡ Val v → IsValueOf ts v
     by_known t (Some w) p q = (let same : w ≡ v = cc in subst (IsValueOf ts) same (k a w p))
     by_known t None p q = cc
 
-    by_cell : (o : Option Content) → cell_in cells a ≡ o → look_at (formula_of o) (own_of o) (e a) a ≡ Val v → IsValueOf ts v
+    by_cell : (o : Option Content) → entry_at cells a ≡ o → look_at (formula_of o) (own_of o) (e a) a ≡ Val v → IsValueOf ts v
     by_cell None p q = (let same : Value.Blank ≡ v = cc in subst (IsValueOf ts) same tt)
     by_cell (Some (Content.Number n)) p q = (let same : Value.Number n ≡ v = cc in subst (IsValueOf ts) same tt)
     by_cell (Some (Content.Text t)) p q = (let same : Value.Text t ≡ v = cc in subst (IsValueOf ts) same (content_text ts cells a h (Content.Text t) p))
@@ -46,7 +47,7 @@ look_below cells ts e h k a v q = by_cell (cell_in cells a) refl q
     by_cell (Some (Content.Formula t)) p q = by_known t (e a) refl q
 
 looked_text : (s : Sight) → IsSight s → (a : Addr) (v : Value) → look_on s a ≡ Val v → IsValueOf s.texts v
-looked_text s h = look_below s.cells s.texts (value_in s.known) h.cells_of h.known_of
+looked_text s h = look_below s.cells s.texts (entry_at s.known) h.cells_of h.known_of
 
 -- where a value was found, it is one of these texts'
 abbrev FoundOf : Texts → Result Value Asked → Type 0
@@ -89,7 +90,7 @@ ask_below : (cells : List (Addr × Content)) (ts : Texts) (e : Known) → AreCel
 ask_below cells ts e h m at t k v q = run_text (mentions at t) ts (look (book_with cells ts) e) (look_below cells ts e h m) (plan ts at t) (plan ts at t) (plan_alike (mentions at t) (λ i. i < length ts) ts ts (λ i m. refl) at t k (λ x m. m)) v q
 
 asked_text : (s : Sight) → IsSight s → (at : Addr) (t : Expr) → IsFormulaOf s.texts t → (v : Value) → ask_on s at t ≡ Val v → IsValueOf s.texts v
-asked_text s h = ask_below s.cells s.texts (value_in s.known) h.cells_of h.known_of
+asked_text s h = ask_below s.cells s.texts (entry_at s.known) h.cells_of h.known_of
 
 pub value_text : (s : Sight) → IsSight s → (at : Addr) (t : Expr) → IsFormulaOf s.texts t → (r : Result Value Asked) → r ≡ value_or_end (ask_on s at t) → IfOk r (IsValueOf s.texts)
 value_text s h at t k r e = go (ask_on s at t) refl r e
@@ -101,7 +102,7 @@ value_text s h at t k r e = go (ask_on s at t) refl r e
 
 -- the values of every round
 
-given_text : (cells : List (Addr × Content)) (ts : Texts) (e : Known) → AreCellsOf ts cells → AreKnownOf ts e → (a : Addr) (x : Option Content) → cell_in cells a ≡ x → (v : Value) → value_given (ask_formula (book_with cells ts) e a (formula_of x)) ≡ Some v → IsValueOf ts v
+given_text : (cells : List (Addr × Content)) (ts : Texts) (e : Known) → AreCellsOf ts cells → AreKnownOf ts e → (a : Addr) (x : Option Content) → entry_at cells a ≡ x → (v : Value) → value_given (ask_formula (book_with cells ts) e a (formula_of x)) ≡ Some v → IsValueOf ts v
 given_text cells ts e h k a None p v q = cc
 given_text cells ts e h k a (Some (Content.Number n)) p v q = cc
 given_text cells ts e h k a (Some (Content.Text n)) p v q = cc
@@ -115,7 +116,7 @@ given_text cells ts e h k a (Some (Content.Formula t)) p v q = go (ask (book_wit
 rounds_below : (cells : List (Addr × Content)) (ts : Texts) → AreCellsOf ts cells → (k : ℕ) → AreKnownOf ts (rounds (book_with cells ts) k)
 unfolding ask_cell formula_at
 rounds_below cells ts h zero = λ a v q. cc
-rounds_below cells ts h (suc k) = λ a v q. given_text cells ts (rounds (book_with cells ts) k) h (rounds_below cells ts h k) a (cell_in cells a) refl v q
+rounds_below cells ts h (suc k) = λ a v q. given_text cells ts (rounds (book_with cells ts) k) h (rounds_below cells ts h k) a (entry_at cells a) refl v q
 
 pub rounds_text : (cells : List (Addr × Content)) (ts : Texts) (k : ℕ) (e : Known) → AreCellsOf ts cells → e ≡ rounds (book_with cells ts) k → AreKnownOf ts e
 rounds_text cells ts k e h p = subst (AreKnownOf ts) (sym p) (rounds_below cells ts h k)

@@ -19,10 +19,6 @@ in_either x [] ys k = inr k
 in_either x (y ∷ xs) ys (inl e) = inl (inl e)
 in_either x (y ∷ xs) ys (inr k) = ⊎_elim (λ m. inl (inr m)) (λ m. inr m) (in_either x xs ys k)
 
-pub length-numbers_from : (n m : ℕ) → length (numbers_from n m) ≡ m
-length-numbers_from n zero = refl
-length-numbers_from n (suc m) = ap suc (length-numbers_from (suc n) m)
-
 -- a list of cells by numbers
 
 pub in_mapped : (f : ℕ → Addr) (n m i : ℕ) → n ≤ i → i < n + m → In (f i) (map f (numbers_from n m))

@@ -10,7 +10,8 @@ use Rattle.formula_trees.specs.Expr.{Expr, Exprs}
 use Rattle.formula_trees.specs.Mentions.{Place, Nowhere, Bad, Cells}
 use Rattle.builtin_functions.specs.declared.operators.Op2.{Op2}
 use Rattle.builtin_functions.specs.declared.folds.FoldKind.{FoldKind}
-use Rattle.builtin_functions.specs.Tables.{as_number, condition, is_error, table}
+use Rattle.builtin_functions.specs.Tables.{condition, table}
+use Rattle.cell_values.specs.Values.{as_number, is_error}
 use Rattle.builtin_functions.specs.Folds.{Total, taken}
 use Rattle.demand_spec.specs.declared.Asked.{Asked}
 use Rattle.demand_spec.specs.declared.Asked.TheVariants.{Val, Needs}

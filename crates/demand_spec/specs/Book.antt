@@ -1,5 +1,6 @@
 -- A book, and what its cells show by rounds over the whole book.
-use Rattle.std.specs.Prelude.{ℕ, zero, suc, ℤ, Bool, false, cond, ◌||◌, Option, Some, None, option_and_then, List, [], ◌∷◌, length}
+use Rattle.std.specs.Option.{option_or}
+use Rattle.std.specs.Prelude.{ℕ, zero, suc, ℤ, Bool, false, cond, Option, Some, None, option_and_then, List, [], ◌∷◌, length}
 use Rattle.cell_values.specs.declared.address.Addr.{Addr}
 use Rattle.cell_values.specs.declared.values.Value.{Value}
 use Rattle.cell_values.specs.declared.interned.TextId.{TextId}
@@ -10,6 +11,7 @@ use Rattle.cell_values.specs.declared.values.Shown.{Shown}
 use Rattle.demand_spec.specs.Plan.{run}
 use Rattle.cell_values.specs.Texts.{Texts}
 use Rattle.cell_values.specs.Addresses.{same_addr}
+use Rattle.cell_values.specs.Order.{entry_at}
 use Rattle.demand_spec.specs.Formula.{plan}
 
 -- what a cell holds
@@ -24,10 +26,6 @@ pub record Book : Type 0 where
   pub cells : List (Addr × Content)
   pub texts : Texts
 
-abbrev pub cell_in : List (Addr × Content) → Addr → Option Content
-cell_in [] a = None
-cell_in (c ∷ rest) a = cond (same_addr a c.0) (Some c.1) (cell_in rest a)
-
 abbrev pub formula_of : Option Content → Option Expr
 formula_of (Some (Formula t)) = Some t
 formula_of _ = None
@@ -40,10 +38,10 @@ own_of (Some (Truth b)) = Value.Bool b
 own_of _ = Value.Blank
 
 unfoldable pub formula_at : Book → Addr → Option Expr
-formula_at b a = formula_of (cell_in b.cells a)
+formula_at b a = formula_of (entry_at b.cells a)
 
 unfoldable pub own : Book → Addr → Value
-own b a = own_of (cell_in b.cells a)
+own b a = own_of (entry_at b.cells a)
 
 -- the values that are known
 abbrev pub Known : Type 0
@@ -112,15 +110,20 @@ abbrev pub is_at : Addr → Option Addr → Bool
 is_at a (Some x) = same_addr a x
 is_at a None = false
 
--- `need` comes back to `c` after 1 to `n` steps
-abbrev pub returns : Book → ℕ → Addr → Bool
-returns b zero c = false
-returns b (suc n) c = returns b n c || is_at c (follow b (suc n) c)
+-- the least of 1 to `n` steps of `need` that come back to `c`
+abbrev pub period : Book → ℕ → Addr → Option ℕ
+period b zero c = None
+period b (suc n) c = option_or (period b n c) (cond (is_at c (follow b (suc n) c)) (Some (suc n)) None)
 
-abbrev pub shown_from : Option Expr → Value → Option Value → Bool → Shown
-shown_from None v f r = Shown.Val v
-shown_from (Some t) v (Some w) r = Shown.Val w
-shown_from (Some t) v None r = cond r Shown.Cycle Shown.ToCycle
+-- the mark of a cell that gets no value: on a loop with its length, else on the way into one
+abbrev pub mark_from : Option ℕ → Shown
+mark_from (Some n) = Shown.Cycle n
+mark_from None = Shown.ToCycle
+
+abbrev pub shown_from : Option Expr → Value → Option Value → Option ℕ → Shown
+shown_from None v f p = Shown.Val v
+shown_from (Some t) v (Some w) p = Shown.Val w
+shown_from (Some t) v None p = mark_from p
 
 unfoldable pub shown : Book → Addr → Shown
-shown b c = shown_from (formula_at b c) (own b c) (finished b c) (returns b (length (formulas b)) c)
+shown b c = shown_from (formula_at b c) (own b c) (finished b c) (period b (length (formulas b)) c)

@@ -15,7 +15,8 @@ use Rattle.formula_trees.specs.Mentions.{Place, Nowhere, Bad, Cells, place_of}
 use Rattle.builtin_functions.specs.declared.operators.Op2.{Op2}
 use Rattle.builtin_functions.specs.declared.operators.Sign2.{Sign2}
 use Rattle.builtin_functions.specs.declared.folds.FoldKind.{FoldKind}
-use Rattle.builtin_functions.specs.Tables.{is_error, as_number, same, table, sign_table, condition}
+use Rattle.builtin_functions.specs.Tables.{same, table, sign_table, condition}
+use Rattle.cell_values.specs.Values.{is_error, as_number}
 use Rattle.builtin_functions.specs.Folds.{Total, so_far, taken}
 use Rattle.demand_spec.specs.Plan.{Plan, Give, Demand, and_then}
 

@@ -8,7 +8,8 @@ use Rattle.formula_trees.specs.Expr.{Expr, Exprs, End, More}
 use Rattle.formula_trees.specs.Mentions.{Place, place_of}
 use Rattle.builtin_functions.specs.declared.operators.Op2.{Op2}
 use Rattle.builtin_functions.specs.declared.operators.Sign2.{Sign2}
-use Rattle.builtin_functions.specs.Tables.{IsValueOf, as_number, is_error, unary_value, binary_value}
+use Rattle.builtin_functions.specs.Tables.{unary_value, binary_value}
+use Rattle.cell_values.specs.Values.{IsValueOf, as_number, is_error}
 use Rattle.demand_spec.specs.declared.Asked.{Asked}
 use Rattle.demand_spec.specs.declared.Asked.TheVariants.{Val, Needs}
 use Rattle.demand_spec.specs.declared.given.Argument.{Argument}

@@ -1,13 +1,14 @@
 -- What the laws on the definitions say.
 use Rattle.std.specs.Prelude.{◌≡◌, ℕ, suc, ◌<◌, Bool, true, ◌↔◌, ◌⊎◌, Some, None, List, [], ◌∷◌, ◌++◌, length, get_or, slice_index_or}
 use Rattle.cell_values.specs.declared.address.Addr.{Addr}
+use Rattle.cell_values.specs.declared.values.Shown.{Shown}
 use Rattle.cell_values.specs.declared.values.Value.{Value}
 use Rattle.demand_spec.specs.declared.Asked.TheVariants.{Val, Needs}
 use Rattle.formula_trees.specs.Expr.{Expr}
 use Rattle.formula_trees.specs.Mentions.{mentions}
 use Rattle.formula_trees.specs.TextNumbers.{TextsBelow}
 use Rattle.demand_spec.specs.TextNumbers.{TextBelow}
-use Rattle.demand_spec.specs.Book.{Book, Known, ask, formula_at, formulas, rounds, own, finished, need, follow, returns, shown}
+use Rattle.demand_spec.specs.Book.{Book, Known, ask, formula_at, formulas, rounds, own, finished, need, follow, period, shown}
 
 -- `e` is a part of `f`
 abbrev pub PartOf : Known → Known → Type 0
@@ -81,9 +82,25 @@ OnLoop b c = (j : ℕ) × (0 < j) × (follow b j c ≡ Some c)
 abbrev pub Carried : Type 0
 Carried = (b : Book) (c x : Addr) → need b c ≡ Some x → OnLoop b c → OnLoop b x
 
--- the test of the definition, which goes no further than the number of formula cells, finds every loop
+-- the search of the definition, which goes no further than the number of formula cells, finds every loop's length
 abbrev pub LoopsAreFound : Type 0
-LoopsAreFound = (b : Book) (c : Addr) → (returns b (length (formulas b)) c ≡ true) ↔ OnLoop b c
+LoopsAreFound = (b : Book) (c : Addr) (n : ℕ) → (period b (length (formulas b)) c ≡ Some n) ↔ HasPeriod b c n
+
+-- a cell shows a loop's length exactly where following its needs comes back to it first after so many steps
+abbrev pub CyclesShow : Type 0
+CyclesShow = (b : Book) (c : Addr) (n : ℕ) → (shown b c ≡ Shown.Cycle n) ↔ HasPeriod b c n
+
+-- each cell of a loop shows how many cells the loop has
+abbrev pub LoopShows : Type 0
+LoopShows = (b : Book) (s : Addr) (rest : List Addr) → IsLoop b s rest → (c : Addr) → In c (s ∷ rest) → shown b c ≡ Shown.Cycle (length (s ∷ rest))
+
+-- the other formula cells without a value lead into a loop
+abbrev pub OthersLead : Type 0
+OthersLead = (b : Book) (c : Addr) → (shown b c ≡ Shown.ToCycle) ↔ (Unfinished b c × (OnLoop b c → ⊥))
+
+-- a formula cell shows a value exactly where rounds give it this value
+abbrev pub ValuesShow : Type 0
+ValuesShow = (b : Book) (c : Addr) (t : Expr) (v : Value) → formula_at b c ≡ Some t → (shown b c ≡ Shown.Val v) ↔ (finished b c ≡ Some v)
 
 -- the formula of `c` names `a`
 pub record Mentions (b : Book) (c a : Addr) : Type 0 where

@@ -8,7 +8,7 @@ use Rattle.cell_values.specs.Addresses.{same_addr, IsBefore, IsOnSheet}
 use Rattle.cell_values.specs.Texts.{Texts, IsTextOf}
 use Rattle.formula_trees.specs.Expr.{Expr, Exprs, expr_of}
 use Rattle.formula_trees.specs.Sound.{IsSound}
-use Rattle.builtin_functions.specs.Tables.{IsValueOf}
+use Rattle.cell_values.specs.Values.{IsValueOf}
 use Rattle.demand_spec.specs.declared.Cell.{Cell}
 use Rattle.demand_spec.specs.Book.{Book, Content, Known, formulas, shown}
 use Rattle.formula_trees.specs.TextNumbers.{TextsBelow, AllTextsBelow}
@@ -23,20 +23,6 @@ abbrev pub contents : List (Addr × Cell) → List (Addr × Content)
 contents [] = []
 contents (c ∷ rest) = (c.0, content_of c.1) ∷ contents rest
 
-abbrev pub IsBeforeAll : Addr → List (Addr × Content) → Type 0
-IsBeforeAll a [] = Unit {0}
-IsBeforeAll a (c ∷ rest) = IsBefore a c.0 × IsBeforeAll a rest
-
--- the address lies after all of the book's
-abbrev pub IsAfterAll : Addr → List (Addr × Content) → Type 0
-IsAfterAll a [] = Unit {0}
-IsAfterAll a (c ∷ rest) = IsBefore c.0 a × IsAfterAll a rest
-
--- each cell stands before all later ones
-abbrev pub InOrder : List (Addr × Content) → Type 0
-InOrder [] = Unit {0}
-InOrder (c ∷ rest) = IsBeforeAll c.0 rest × InOrder rest
-
 -- a formula is sound at its cell
 abbrev pub IsSoundAt : Addr → Content → Type 0
 IsSoundAt at (Content.Formula t) = IsSound at t
@@ -46,11 +32,6 @@ IsSoundAt at _ = Unit {0}
 abbrev pub AllSound : List (Addr × Content) → Type 0
 AllSound [] = Unit {0}
 AllSound (c ∷ rest) = IsOnSheet c.0 × IsSoundAt c.0 c.1 × AllSound rest
-
--- the value that stands beside the address
-abbrev pub value_in : List (Addr × Value) → Known
-value_in [] a = None
-value_in (k ∷ rest) a = cond (same_addr a k.0) (Some k.1) (value_in rest a)
 
 -- each formula cell of the list, with what it shows
 abbrev pub shown_over : Book → List Addr → List (Addr × Shown)

@@ -15,7 +15,8 @@ use Rattle.formula_trees.specs.References.{resolve}
 use Rattle.builtin_functions.specs.declared.operators.Op2.{Op2}
 use Rattle.builtin_functions.specs.declared.operators.Sign2.{Sign2}
 use Rattle.builtin_functions.specs.declared.folds.FoldKind.{FoldKind}
-use Rattle.builtin_functions.specs.Tables.{table, sign_table, as_number, is_error}
+use Rattle.builtin_functions.specs.Tables.{table, sign_table}
+use Rattle.cell_values.specs.Values.{as_number, is_error}
 use Rattle.builtin_functions.specs.Folds.{Total, end_value}
 use Rattle.demand_spec.specs.declared.Asked.TheVariants.{Val}
 use Rattle.demand_spec.specs.Formula.{from_one, op_of, sign_of}

@@ -6,7 +6,8 @@ use Rattle.cell_values.specs.Texts.{Texts}
 use Rattle.formula_trees.specs.Expr.{Expr}
 use Rattle.demand_spec.specs.declared.Asked.{Asked}
 use Rattle.demand_spec.specs.Book.{Book, Content, Known, look, ask}
-use Rattle.demand_spec.specs.Listed.{value_in, AreCellsOf, AreKnownOf}
+use Rattle.demand_spec.specs.Listed.{AreCellsOf, AreKnownOf}
+use Rattle.cell_values.specs.Order.{entry_at}
 
 pub record Sight : Type 0 where
   pub cells : List (Addr × Content)
@@ -16,7 +17,7 @@ pub record Sight : Type 0 where
 -- all text numbers are the texts'
 pub record IsSight (s : Sight) : Type 0 where
   pub cells_of : AreCellsOf s.texts s.cells
-  pub known_of : AreKnownOf s.texts (value_in s.known)
+  pub known_of : AreKnownOf s.texts (entry_at s.known)
 
 -- a book with its texts
 abbrev pub book_with : List (Addr × Content) → Texts → Book
@@ -26,12 +27,12 @@ abbrev pub book_of : Sight → Book
 book_of s = book_with s.cells s.texts
 
 abbrev pub known_of : Sight → Known
-known_of s = value_in s.known
+known_of s = entry_at s.known
 
 -- what a demand of a cell gives
 abbrev pub look_on : Sight → Addr → Asked
-look_on s a = look (book_of s) (value_in s.known) a
+look_on s a = look (book_of s) (entry_at s.known) a
 
 -- what a formula gives
 abbrev pub ask_on : Sight → Addr → Expr → Asked
-ask_on s at t = ask (book_of s) (value_in s.known) at t
+ask_on s at t = ask (book_of s) (entry_at s.known) at t

@@ -220,7 +220,7 @@ impl<'a> Stage<'a> {
     /// What the argument with a number gives, counted from 0.
     #[cycle(formula)]
     #[tactic(auto, using(crate::proofs::Rules::later_is))]
-    fn chosen(&self, n: u64, args: &Args, at: Addr) -> Asked
+    fn chosen(&self, n: u128, args: &Args, at: Addr) -> Asked
         requires { AreArgumentsOf self.now.texts (exprs_of args.now) }
         ensures { result ≡ ask_value_at (book_of self.now) (known_of self.now) at n (exprs_of args.now) }
     {

@@ -1,6 +1,6 @@
 //! Folds and searches over the cells of an area.
 ghost use Rattle.std.specs.Prelude.{◌≡◌, ◌+◌, ◌<◌, ◌≤◌, ◌^◌, IfOk, IfSome, IsFalse};
-ghost use Rattle.builtin_functions.specs.Tables.{IsValueOf, is_error};
+ghost use Rattle.cell_values.specs.Values.{IsValueOf, is_error};
 ghost use Rattle.cell_values.specs.Areas.{column_of, height, width, row_of, walk, IsArea};
 ghost use Rattle.demand_spec.specs.Asks.{fold_looks, fold_part, search_looks};
 ghost use Rattle.demand_spec.specs.Formula.{is_found};

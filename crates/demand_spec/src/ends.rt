@@ -3,7 +3,8 @@ ghost use Rattle.std.specs.Prelude.{◌≡◌, IfOk, IsFalse};
 ghost use Rattle.cell_values.specs.declared.values.Value.TheVariants.{Error};
 ghost use Rattle.demand_spec.specs.declared.Asked.TheVariants.{Val};
 ghost use Rattle.demand_spec.specs.Asks.{any_value, value_or_end, number_or_end, found_or_end, or_fails, answer_of};
-ghost use Rattle.builtin_functions.specs.Tables.{as_number, is_error, condition as condition_of};
+ghost use Rattle.builtin_functions.specs.Tables.{condition as condition_of};
+ghost use Rattle.cell_values.specs.Values.{as_number, is_error};
 ghost use Rattle.builtin_functions.specs.Folds.{taken};
 
 use crate::Asked;
@@ -64,10 +65,9 @@ pub(crate) fn truth(value: Value) -> Result<bool, Asked>
 pub(crate) fn number(value: Value) -> Result<Int, Asked>
     ensures { result ≡ number_or_end (as_number value) }
 {
-    match value {
-        Value::Number(n) => Ok(n),
-        Value::Blank => Ok(0),
-        _ => Err(fails(Code::Value)),
+    match value.as_number() {
+        Some(n) => Ok(n),
+        None => Err(fails(Code::Value)),
     }
 }
 

@@ -99,7 +99,7 @@ pub(crate) fn operator_of_two(op: Op2, a: Asked, b: Asked, texts: &Texts) -> Ask
 }
 
 /// CHOOSE's index, from 1 on and counted from 0.
-pub(crate) fn index_of(a: Asked) -> Result<Option<u64>, Asked>
+pub(crate) fn index_of(a: Asked) -> Result<Option<u128>, Asked>
     ensures { result ≡ index_or_end a }
 {
     let n = number(no_error(a)?)?;
@@ -107,10 +107,10 @@ pub(crate) fn index_of(a: Asked) -> Result<Option<u64>, Asked>
 }
 
 /// A number from 1 on, counted from 0.
-fn from_one(n: Int) -> Option<u64>
+fn from_one(n: Int) -> Option<u128>
     ensures { result ≡ from_one n }
 {
-    if n < 1 { None } else { Some((n - 1) as u64) }
+    if n < 1 { None } else { Some((n - 1) as u128) }
 }
 
 fn condition_of(a: Asked) -> Result<bool, Asked>

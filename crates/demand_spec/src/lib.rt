@@ -1,7 +1,7 @@
 //! The definitions of demand evaluation, the laws on them, and a plain evaluator.
 #![tactic(auto)]
 
-ghost use Rattle.demand_spec.specs.Laws.{AskGrows, RoundsEnd, NeedIsThere, NeedIsMentioned, StackCloses, Carried, LoopsAreFound, PendingIsClosed, LoopInClosed, ShowsSame};
+ghost use Rattle.demand_spec.specs.Laws.{AskGrows, RoundsEnd, NeedIsThere, NeedIsMentioned, StackCloses, Carried, LoopsAreFound, ValuesShow, CyclesShow, LoopShows, OthersLead, PendingIsClosed, LoopInClosed, ShowsSame};
 ghost use Rattle.demand_spec.specs.Recursion.{LiteralGives, ReferenceGives, SignGives, OperatorGives, ModGives, QuotientGives, AbsGives, IfGives, ShortIfGives, AndGives, OrGives, NoneGive, NotGives, IfErrorGives, IsErrorGives, ChooseGives, FoldGives, FoldEnds, IndexGives, MatchGives, VLookupGives, HLookupGives};
 
 mod ask;
@@ -64,9 +64,17 @@ pub fn law_carried()
     ensures { Carried }
 {}
 
-/// The bounded test finds every loop.
+/// The bounded search finds the length of every loop.
 pub fn law_loops_are_found()
     ensures { LoopsAreFound }
+{}
+
+/// What a formula cell shows: the value that rounds give it, its loop's length, or that it leads into one.
+pub fn law_marks()
+    ensures values { ValuesShow }
+    ensures cycles { CyclesShow }
+    ensures members { LoopShows }
+    ensures others { OthersLead }
 {}
 
 /// Pending sets are closed, and a loop that meets a closed set lies in it.

@@ -85,7 +85,7 @@ pub(crate) fn up_to_most(most: u32, n: Int) -> Result<u32, Asked>
     ensures same { result ≡ up_to_or_end most n }
     ensures within { IfOk result (λ k. k < most) }
 {
-    if n < 1 || i64::from(most) < n {
+    if n < 1 || Int::from(most) < n {
         Err(fails(Code::Ref))
     } else {
         Ok((n - 1) as u32)

@@ -1,6 +1,6 @@
 //! What all formula cells of a book show.
 ghost use Rattle.std.specs.Prelude.{◌≡◌, length, option_and_then, IfOk, IsSome};
-ghost use Rattle.demand_spec.specs.Book.{finished, formula_at, is_at, need, returns, shown};
+ghost use Rattle.demand_spec.specs.Book.{finished, formula_at, is_at, need, period, shown};
 ghost use Rattle.demand_spec.specs.Listed.{all_shown, AreCellsOf};
 ghost use Rattle.demand_spec.specs.Stage.{book_of, known_of, book_with};
 
@@ -43,23 +43,23 @@ fn is_back(at: Addr, here: Option<Addr>) -> bool
     }
 }
 
-/// Whether the needs lead from a cell back to it, within so many steps.
-fn comes_back(stage: &Stage, at: Addr, steps: usize) -> bool
+/// After how many steps, from 1 to `most`, the needs first lead from a cell back to it.
+fn steps_back(stage: &Stage, at: Addr, most: u32) -> Option<u32>
     requires { known_of stage.now ≡ finished (book_of stage.now) }
-    ensures { result ≡ returns (book_of stage.now) steps at }
+    ensures { result ≡ period (book_of stage.now) most at }
 {
     let mut here = Some(at);
-    for step in 0..steps {
+    for step in 0..most {
         here = step_on(stage, here);
         if is_back(at, here) {
-            return true;
+            return Some(step + 1);
         }
     }
-    false
+    None
 }
 
 /// What a formula cell shows.
-fn shown_of(stage: &Stage, at: Addr, cells: usize) -> Shown
+fn shown_of(stage: &Stage, at: Addr, cells: u32) -> Shown
     requires finished { known_of stage.now ≡ finished (book_of stage.now) }
     requires cells { cells ≡ length stage.now.cells }
     requires formula { IsSome (formula_at (book_of stage.now) at) }
@@ -67,18 +67,15 @@ fn shown_of(stage: &Stage, at: Addr, cells: usize) -> Shown
 {
     match stage.known(at) {
         Some(v) => Shown::Val(v),
-        None => {
-            if comes_back(stage, at, cells) {
-                Shown::Cycle
-            } else {
-                Shown::ToCycle
-            }
-        }
+        None => match steps_back(stage, at, cells) {
+            Some(length) => Shown::Cycle(length),
+            None => Shown::ToCycle,
+        },
     }
 }
 
 /// All formula cells in order, with what they show: the values that rounds over the whole book give,
-/// and for each cell without a value whether its needs lead back to it.
+/// and for each cell without a value how long the loop is that its needs make, if it is on one.
 #[tactic(auto, unfolding(crate::specs::Book::formulas))]
 pub fn slow_shown(
     alloc: Global,
@@ -94,7 +91,7 @@ pub fn slow_shown(
     let mut out = Vec::new(alloc);
     for (address, cell) in cells {
         if let Cell::Formula(_) = cell {
-            out.push((*address, shown_of(&stage, *address, cells.len())))?;
+            out.push((*address, shown_of(&stage, *address, cells.len() as u32)))?;
         }
     }
     Ok(out)

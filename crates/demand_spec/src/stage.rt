@@ -1,9 +1,10 @@
 //! What formulas are asked over.
 ghost use Rattle.std.specs.Prelude.{◌≡◌, option_map, option_copied, IfOk};
-ghost use Rattle.builtin_functions.specs.Tables.{IsValueOf};
+ghost use Rattle.cell_values.specs.Values.{IsValueOf};
 ghost use Rattle.demand_spec.specs.Asks.{any_value};
-ghost use Rattle.demand_spec.specs.Book.{ask_cell, cell_in};
-ghost use Rattle.demand_spec.specs.Listed.{content_of, value_in, AreCellsOf, AreKnownOf};
+ghost use Rattle.demand_spec.specs.Book.{ask_cell};
+ghost use Rattle.cell_values.specs.Order.{entry_at};
+ghost use Rattle.demand_spec.specs.Listed.{content_of, AreCellsOf, AreKnownOf};
 
 use crate::ends::any_value;
 use crate::{Asked, Cell, PlainBook};
@@ -46,7 +47,7 @@ impl<'a> Stage<'a> {
         known: &'a BTreeMap<Addr, Value>,
     ) -> Stage<'a>
         requires cells { AreCellsOf texts.now book.now }
-        requires known { AreKnownOf texts.now (value_in known.now.entries) }
+        requires known { AreKnownOf texts.now (entry_at known.now.entries) }
         ensures { result ≡ record { cells = book.now; texts = texts.now; known = known.now.entries } }
     {
         Stage { book, texts, known }
@@ -108,7 +109,7 @@ impl<'a> Stage<'a> {
 
 /// The value that is known of a cell.
 fn known_value(known: &BTreeMap<Addr, Value>, at: Addr) -> Option<Value>
-    ensures { result ≡ value_in known.now.entries at }
+    ensures { result ≡ entry_at known.now.entries at }
 {
     known.get(&at).copied()
 }

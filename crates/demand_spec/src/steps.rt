@@ -1,6 +1,6 @@
 //! INDEX, MATCH, VLOOKUP and HLOOKUP, step by step.
 ghost use Rattle.std.specs.Prelude.{◌≡◌, IsFalse};
-ghost use Rattle.builtin_functions.specs.Tables.{IsValueOf, is_error};
+ghost use Rattle.cell_values.specs.Values.{IsValueOf, is_error};
 ghost use Rattle.demand_spec.specs.Asks.{answer_of, on_with, value_or_end, index_steps, match_steps, v_lookup_steps, h_lookup_steps};
 ghost use Rattle.demand_spec.specs.Given.{IsAnswerOf, lookup_of, match_of};
 ghost use Rattle.demand_spec.specs.Places.{place_seen, HasArea};

@@ -2,7 +2,8 @@
 ghost use Rattle.std.specs.Prelude.{◌≡◌, ◌≤◌, IsTrue};
 ghost use Rattle.cell_values.specs.Addresses.{IsBefore, IsOnSheet};
 ghost use Rattle.cell_values.specs.Texts.{Texts as Bytes, IsTextOf};
-ghost use Rattle.demand_spec.specs.Listed.{content_of, contents, IsAfterAll, IsSoundAt, IsContentOf, AreCellsOf, IsFormulaOf, AreArgumentsOf};
+ghost use Rattle.demand_spec.specs.Listed.{content_of, contents, IsSoundAt, IsContentOf, AreCellsOf, IsFormulaOf, AreArgumentsOf};
+ghost use Rattle.cell_values.specs.Order.{IsAfterAll, addresses};
 ghost use Rattle.formula_trees.specs.Expr.{expr_of, exprs_of};
 
 use crate::stage::Stage;
@@ -38,7 +39,7 @@ fn is_before(a: Addr, b: Addr) -> bool
 
 // Whether the address lies after all cells.
 fn is_last(cells: &[(Addr, Cell)], at: Addr) -> bool
-    ensures { IsTrue result → IsAfterAll at (contents cells.now) }
+    ensures { IsTrue result → IsAfterAll at (addresses (contents cells.now)) }
 {
     for (address, _) in cells {
         if !is_before(*address, at) {
@@ -57,7 +58,7 @@ fn put(rt: &impl Abort, book: &mut PlainBook, texts: &Texts, at: Addr, cell: Cel
     requires texts { AreCellsOf texts.now book.old }
     ensures { AreCellsOf texts.now book.new }
 {
-    assert!(rt; is_last(book.cells(), at));
+    assert!(rt; !book.is_full() && is_last(book.cells(), at));
     book.push(at, cell).expect(rt, "memory");
 }
 
@@ -96,12 +97,13 @@ fn book_of(rt: &impl Abort, alloc: Global, texts: &Texts, columns: &[u16]) -> Pl
     book
 }
 
+// A loop's length by its last digit.
 fn letter(shown: Shown) -> u8 {
     match shown {
-        Shown::Val(Value::Number(7)) => b'7',
+        Shown::Val(Value::Number(7)) => b'v',
         Shown::Val(Value::Blank) => b'-',
         Shown::Val(_) => b'?',
-        Shown::Cycle => b'C',
+        Shown::Cycle(length) => b'0' + (length % 10) as u8,
         Shown::ToCycle => b'T',
     }
 }
@@ -110,14 +112,14 @@ fn letter(shown: Shown) -> u8 {
 fn loops_and_what_leads_into_them(rt: HostRuntime) -> Result<(), Fail> {
     // the columns that the cells A1, B1, .. refer to, 0 for the number 7, and what the formula cells show
     let rows: [(&[u16], &[u8]); 8] = [
-        (&[2, 3, 2], b"TCC"),
-        (&[1], b"C"),
-        (&[2, 1], b"CC"),
-        (&[2, 3, 4, 5, 1], b"CCCCC"),
-        (&[2, 3, 4, 0], b"777"),
+        (&[2, 3, 2], b"T22"),
+        (&[1], b"1"),
+        (&[2, 1], b"22"),
+        (&[2, 3, 4, 5, 1], b"55555"),
+        (&[2, 3, 4, 0], b"vvv"),
         (&[2, 9], b"--"),
-        (&[2, 3, 4, 5, 3, 1], b"TTCCCT"),
-        (&[2, 1, 4, 0, 6, 5, 5], b"CC7CCT"),
+        (&[2, 3, 4, 5, 3, 1], b"TT333T"),
+        (&[2, 1, 4, 0, 6, 5, 5], b"22v22T"),
     ];
     let texts = Texts::new(rt.alloc());
     for (columns, want) in rows {

@@ -1,7 +1,8 @@
 //! Rounds over the whole book.
 ghost use Rattle.std.specs.Prelude.{◌≡◌, ◌||◌, OnOk, IfOk};
 ghost use Rattle.demand_spec.specs.Book.{finished, round};
-ghost use Rattle.demand_spec.specs.Listed.{content_of, contents, value_in, AreCellsOf, AreKnownOf, IsContentOf};
+ghost use Rattle.demand_spec.specs.Listed.{content_of, contents, AreCellsOf, AreKnownOf, IsContentOf};
+ghost use Rattle.cell_values.specs.Order.{entry_at};
 ghost use Rattle.demand_spec.specs.Rounds.{put, given_at, round_from, adds};
 ghost use Rattle.demand_spec.specs.Stage.{book_of, book_with, known_of};
 
@@ -22,7 +23,7 @@ struct NextRound {
 
 /// A value on for a cell.
 fn put_value(known: &mut BTreeMap<Addr, Value>, at: Addr, value: Value) -> Result<(), AllocError>
-    ensures { OnOk result (value_in known.new.entries ≡ put at value (value_in known.old.entries)) }
+    ensures { OnOk result (entry_at known.new.entries ≡ put at value (entry_at known.old.entries)) }
 {
     known.insert(at, value)?;
     Ok(())
@@ -55,7 +56,7 @@ impl NextRound {
     /// The value of a cell on, if its formula gives one.
     fn add(&mut self, stage: &Stage, at: Addr, cell: &Cell) -> Result<(), AllocError>
         requires { IsContentOf stage.now.texts (content_of cell.now) }
-        ensures known { OnOk result (value_in self.new.known.entries ≡ put_given at (given_at (book_of stage.now) (known_of stage.now) at (content_of cell.now)) (value_in self.old.known.entries)) }
+        ensures known { OnOk result (entry_at self.new.known.entries ≡ put_given at (given_at (book_of stage.now) (known_of stage.now) at (content_of cell.now)) (entry_at self.old.known.entries)) }
         ensures grew { OnOk result (self.new.grew ≡ (self.old.grew || is_new (given_at (book_of stage.now) (known_of stage.now) at (content_of cell.now)) (known_of stage.now at))) }
     {
         match given(stage, at, cell) {
@@ -72,7 +73,7 @@ impl NextRound {
 #[tactic(auto, using(crate::proofs::Listed::or_moves))]
 fn round_over(alloc: Global, stage: &Stage, cells: &[(Addr, Cell)]) -> Result<NextRound, AllocError>
     requires { AreCellsOf stage.now.texts (contents cells.now) }
-    ensures known { IfOk result (λ r. value_in r.known.entries ≡ round_from (book_of stage.now) (known_of stage.now) (λ a. None) (contents cells.now)) }
+    ensures known { IfOk result (λ r. entry_at r.known.entries ≡ round_from (book_of stage.now) (known_of stage.now) (λ a. None) (contents cells.now)) }
     ensures grew { IfOk result (λ r. r.grew ≡ adds (book_of stage.now) (known_of stage.now) (contents cells.now)) }
 {
     let mut next = NextRound {
@@ -93,9 +94,9 @@ fn next_round(
     known: &BTreeMap<Addr, Value>,
 ) -> Result<NextRound, AllocError>
     requires cells { AreCellsOf texts.now book.now }
-    requires known { AreKnownOf texts.now (value_in known.now.entries) }
-    ensures known { IfOk result (λ r. value_in r.known.entries ≡ round (book_with book.now texts.now) (value_in known.now.entries)) }
-    ensures grew { IfOk result (λ r. r.grew ≡ adds (book_with book.now texts.now) (value_in known.now.entries) book.now) }
+    requires known { AreKnownOf texts.now (entry_at known.now.entries) }
+    ensures known { IfOk result (λ r. entry_at r.known.entries ≡ round (book_with book.now texts.now) (entry_at known.now.entries)) }
+    ensures grew { IfOk result (λ r. r.grew ≡ adds (book_with book.now texts.now) (entry_at known.now.entries) book.now) }
 {
     let stage = Stage::over(book, texts, known);
     round_over(alloc, &stage, book.cells())
@@ -109,7 +110,7 @@ pub(crate) fn finish(
     texts: &Texts,
 ) -> Result<BTreeMap<Addr, Value>, AllocError>
     requires { AreCellsOf texts.now book.now }
-    ensures { IfOk result (λ k. value_in k.entries ≡ finished (book_with book.now texts.now)) }
+    ensures { IfOk result (λ k. entry_at k.entries ≡ finished (book_with book.now texts.now)) }
 {
     let mut known = BTreeMap::new(alloc);
     for round in 0..book.cells().len() {

@@ -1,5 +1,5 @@
-use Rattle.std.proofs.Common.{◌≡◌, sym, ap, ◌∙◌, true, false, length}
-use Rattle.demand_spec.specs.Book.{returns}
+use Rattle.std.proofs.Common.{◌≡◌, Some, None, sym, ap, ◌∙◌, length}
+use Rattle.demand_spec.specs.Book.{period}
 use Rattle.demand_spec.specs.Stage.{book_of, known_of}
 use Rattle.demand_spec.proofs.Listed.{shown_value, shown_mark}
 use Rattle.demand_spec.proofs.slow.shown_of.Goals as goal
@@ -7,8 +7,8 @@ use Rattle.demand_spec.proofs.slow.shown_of.Goals as goal
 pub returns-in-Some : goal.returns-in-Some
 returns-in-Some c = sym (shown_value (book_of c.args.stage.now) (known_of c.args.stage.now) c.args.at c.in-Some.v c.requires.formula c.requires.finished (sym c.in-Some.ensures))
 
-pub returns-then-comes_back : goal.returns-then-comes_back
-returns-then-comes_back c = sym (shown_mark (book_of c.args.stage.now) (known_of c.args.stage.now) c.args.at true c.requires.formula c.requires.finished (sym c.in-None.ensures) (ap (λ n. returns (book_of c.args.stage.now) n c.args.at) (sym c.requires.cells) ∙ sym c.comes_back.ensures ∙ c.if-comes_back.true))
+pub returns-in-Some-steps_back : goal.returns-in-Some-steps_back
+returns-in-Some-steps_back c = sym (shown_mark (book_of c.args.stage.now) (known_of c.args.stage.now) c.args.at (Some c.in-Some-steps_back.length) c.requires.formula c.requires.finished (sym c.in-None.ensures) (ap (λ n. period (book_of c.args.stage.now) n c.args.at) (sym c.requires.cells) ∙ sym c.in-Some-steps_back.ensures))
 
-pub returns-else-comes_back : goal.returns-else-comes_back
-returns-else-comes_back c = sym (shown_mark (book_of c.args.stage.now) (known_of c.args.stage.now) c.args.at false c.requires.formula c.requires.finished (sym c.in-None.ensures) (ap (λ n. returns (book_of c.args.stage.now) n c.args.at) (sym c.requires.cells) ∙ sym c.comes_back.ensures ∙ c.if-comes_back.false))
+pub returns-in-None-steps_back : goal.returns-in-None-steps_back
+returns-in-None-steps_back c = sym (shown_mark (book_of c.args.stage.now) (known_of c.args.stage.now) c.args.at None c.requires.formula c.requires.finished (sym c.in-None.ensures) (ap (λ n. period (book_of c.args.stage.now) n c.args.at) (sym c.requires.cells) ∙ sym c.in-None-steps_back.ensures))

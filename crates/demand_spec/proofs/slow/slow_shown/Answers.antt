@@ -1,13 +1,13 @@
 use Rattle.std.proofs.Common.{sym, ap, ◌∙◌, subst, length}
-use Rattle.demand_spec.specs.Listed.{value_in}
+use Rattle.cell_values.specs.Order.{entry_at}
 use Rattle.demand_spec.specs.Stage.{Sight, book_of}
-use Rattle.demand_spec.proofs.Listed.{formula_element, length-contents}
-use Rattle.demand_spec.proofs.Ordered.{IsBook, distinct_from_order}
+use Rattle.demand_spec.proofs.Listed.{formula_element}
+use Rattle.demand_spec.proofs.Ordered.{IsBook, distinct_from_order, length-contents}
 use Rattle.demand_spec.proofs.Texts.{finished_text}
 use Rattle.demand_spec.proofs.slow.slow_shown.Goals as goal
 
 pub over-stage-requires-clause-known : goal.over-stage-requires-clause-known
-over-stage-requires-clause-known c = finished_text c.args.book.now c.args.texts.now (value_in c.in_ok-known.known.entries) c.requires c.in_ok-known.ensures
+over-stage-requires-clause-known c = finished_text c.args.book.now c.args.texts.now (entry_at c.in_ok-known.known.entries) c.requires c.in_ok-known.ensures
 
 pub shown_of-requires-clause-cells : goal.shown_of-requires-clause-cells
 shown_of-requires-clause-cells c = sym (length-contents c.cells-cells.result.now) ∙ ap length c.cells-cells.ensures.same ∙ sym (ap (λ (s : Sight). length s.cells) c.over-stage.ensures)

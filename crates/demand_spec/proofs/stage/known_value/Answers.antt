@@ -1,5 +1,5 @@
 use Rattle.std.proofs.Common.{◌∙◌}
-use Rattle.demand_spec.proofs.Lookups.{lookup_is}
+use Rattle.cell_values.proofs.Order.{lookup_is}
 use Rattle.demand_spec.proofs.stage.known_value.Goals as goal
 
 pub returns : goal.returns
