@@ -4,6 +4,7 @@ use Rattle.std.proofs.lemmas.Bool.{and_parts, leb-true}
 use Rattle.std.proofs.lemmas.List.{length-append}
 use Rattle.std.specs.List.{enumerate_from, flat_map}
 use Rattle.std.specs.Str.{bytes_eq, is_utf8}
+use Rattle.cell_values.specs.declared.TheConstants.{MAX_BOOK_CELLS}
 use Rattle.cell_values.specs.declared.address.Addr.{Addr}
 use Rattle.cell_values.specs.declared.fields.Raw.{Raw}
 use Rattle.cell_values.specs.Addresses.{IsBefore, IsOnSheet}
@@ -192,7 +193,7 @@ good_fields (f ∷ rest) room r c s (k, rf, cf, h) n g =
         (more f.row f.col ((raw_of s.0 f.bytes).0, s.1 ++ (cell_at 0 f, (raw_of s.0 f.bytes).1) ∷ []) h later (good_more r c f s k rf cf rt ct g))
 
 -- the cells of a sheet without a fault
-pub sheet_cells : (bytes : List ℕ) (ts : Texts) (cells : List (Addr × Raw)) → first_fault 200000 (sheet_fields bytes) ≡ None → (ts, cells) ≡ cells_of 0 [] (sheet_fields bytes) → AreSheetCells ts cells
+pub sheet_cells : (bytes : List ℕ) (ts : Texts) (cells : List (Addr × Raw)) → first_fault MAX_BOOK_CELLS (sheet_fields bytes) ≡ None → (ts, cells) ≡ cells_of 0 [] (sheet_fields bytes) → AreSheetCells ts cells
 sheet_cells bytes ts cells n e =
     subst (λ (s : Sheet). AreSheetCells s.0 s.1) (sym e)
     (good_fields (sheet_fields bytes) 200000 0 0 ([], []) (fields_chain _) n (record { before = tt; in_order = tt; fit = tt }))
