@@ -39,7 +39,7 @@ unfolding finished
 untouched_finished b cs closed c at = untouched b cs closed (length (formulas b)) c at
 
 -- what a cell demands is what it needs, where that is not finished
-need_from_demand : (b : Book) (c x : Addr) → Demands b c x → finished b x ≡ None → need b c ≡ Some x
+pub need_from_demand : (b : Book) (c x : Addr) → Demands b c x → finished b x ≡ None → need b c ≡ Some x
 unfolding need ask_cell
 need_from_demand b c x d n =
     subst (λ t. cell_needed (ask_formula b (finished b) c t) ≡ Some x) (sym d.is_formula)
@@ -85,6 +85,7 @@ pub follow_from : (b : Book) (c x : Addr) → need b c ≡ Some x → (j : ℕ) 
 follow_from b c x e zero = e
 follow_from b c x e (suc j) = ap (go_on b) (follow_from b c x e j)
 
+-- following on from where `i` steps lead
 pub follow_then : (b : Book) (i : ℕ) (c x : Addr) → follow b i c ≡ Some x → (j n : ℕ) → n ≡ j + i → follow b n c ≡ follow b j x
 follow_then b i c x e zero n q = (let same : n ≡ i = omega arith in subst (λ z. follow b z c ≡ Some x) (sym same) e)
 follow_then b i c x e (suc j) zero q = absurd (omega arith)

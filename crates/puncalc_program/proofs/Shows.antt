@@ -7,6 +7,7 @@ use Rattle.cell_values.specs.declared.address.Addr.{Addr}
 use Rattle.cell_values.specs.declared.values.Shown.{Shown}
 use Rattle.cell_values.specs.declared.values.Value.{Value}
 use Rattle.cell_values.specs.Addresses.{same_addr}
+use Rattle.cell_values.specs.Order.{entry_at}
 use Rattle.cell_values.specs.Values.{IsShownOf, IsValueOf}
 use Rattle.cell_values.proofs.Order.{cmp, lookup_is, same_cmp, same_addr-refl, same_addr-sym, same_addr-true}
 use Rattle.cell_values.specs.Texts.{Texts}
@@ -14,9 +15,9 @@ use Rattle.formula_trees.specs.Expr.{Expr}
 use Rattle.demand_spec.specs.Book.{Book, Content, own, own_of, shown, formulas, formula_at, shown_from, finished, period}
 use Rattle.demand_spec.specs.Laws.{In}
 use Rattle.demand_spec.specs.Listed.{all_shown, shown_over, AreCellsOf, IsContentOf}
-use Rattle.demand_spec.proofs.Texts.{finished_text}
+use Rattle.demand_spec.proofs.Results.{shows_own, shows_its_texts}
+use Rattle.demand_spec.proofs.Texts.{content_text}
 use Rattle.demand_spec.proofs.Rounds.{in_formulas}
-use Rattle.cell_values.specs.Order.{entry_at}
 use Rattle.puncalc_program.specs.Recalculated.{result_or, IsLoaded, IsRecalculated}
 
 -- a result that is inserted stands before the others
@@ -56,53 +57,18 @@ unlisted b a out = go (formula_at b a) refl
     go None e = e
     go (Some t) e = absurd (out (in_formulas b a t e))
 
-own_shown : (b : Book) (a : Addr) → formula_at b a ≡ None → Shown.Val (own b a) ≡ shown b a
-unfolding shown
-own_shown b a e = ap (λ f. shown_from f (own b a) (finished b a) (period b (length (formulas b)) a)) (sym e)
-
 pub results_show : (b : Book) (a : Addr) → result_or (entry_at (all_shown b) a) (own b a) ≡ shown b a
 results_show b a = go (found b (formulas b) a)
   where
     go : (entry_at (all_shown b) a ≡ Some (shown b a)) ⊎ ((entry_at (all_shown b) a ≡ None) × (In a (formulas b) → ⊥)) → result_or (entry_at (all_shown b) a) (own b a) ≡ shown b a
     go (inl e) = ap (λ o. result_or o (own b a)) e
-    go (inr (e, out)) = ap (λ o. result_or o (own b a)) e ∙ own_shown b a (unlisted b a out)
-
--- text numbers
-
-content_text : (ts : Texts) (x : Content) → IsContentOf ts x → IsValueOf ts (own_of (Some x))
-content_text ts (Content.Number n) k = tt
-content_text ts (Content.Text t) k = k
-content_text ts (Content.Truth t) k = tt
-content_text ts (Content.Formula t) k = tt
-
-own_text : (ts : Texts) (cs : List (Addr × Content)) (a : Addr) → AreCellsOf ts cs → IsValueOf ts (own_of (entry_at cs a))
-own_text ts [] a h = tt
-own_text ts (c ∷ rest) a (h, hs) = go (same_addr a c.0) (content_text ts c.1 h) (own_text ts rest a hs)
-  where
-    go : (s : Bool) → IsValueOf ts (own_of (Some c.1)) → IsValueOf ts (own_of (entry_at rest a)) → IsValueOf ts (own_of (cond s (Some c.1) (entry_at rest a)))
-    go true k r = k
-    go false k r = r
-
-value_own : (b : Book) (a : Addr) → AreCellsOf b.texts b.cells → IsValueOf b.texts (own b a)
-unfolding own
-value_own b a cs = own_text b.texts b.cells a cs
-
--- what a cell shows has a text number of the book's texts
-shown_text : (b : Book) (a : Addr) → AreCellsOf b.texts b.cells → IsShownOf b.texts (shown b a)
-unfolding shown
-shown_text b a cs = go (formula_at b a) (finished b a) (period b (length (formulas b)) a) (finished_text b.cells b.texts (finished b) cs refl a)
-  where
-    go : (f : Option Expr) (o : Option Value) (r : Option ℕ) → ((v : Value) → o ≡ Some v → IsValueOf b.texts v) → IsShownOf b.texts (shown_from f (own b a) o r)
-    go None o r h = value_own b a cs
-    go (Some t) (Some w) r h = h w refl
-    go (Some t) None (Some n) h = tt
-    go (Some t) None None h = tt
+    go (inr (e, out)) = ap (λ o. result_or o (own b a)) e ∙ sym (shows_own b a (unlisted b a out))
 
 pub recalculated : (b : Book) (rows columns : ℕ) (xs results : List (Addr × Shown)) → IsLoaded b rows columns → xs ≡ all_shown b →
     ((a : Addr) → entry_at results a ≡ entry_at xs a) → IsRecalculated b results rows columns
 recalculated b rows columns xs results h e same = record {
   shows = show;
-  texts = λ a. subst (IsShownOf b.texts) (sym (show a)) (shown_text b a h.texts);
+  texts = λ a. subst (IsShownOf b.texts) (sym (show a)) (shows_its_texts b (λ x. content_text b.texts b.cells x h.texts) a);
   extent = h.extent;
 }
   where
