@@ -1,9 +1,9 @@
 //! Where cells stand.
 
-ghost use Rattle.std.specs.Prelude.{◌≡◌, ◌≤◌, ◌<◌, ◌∷◌, ◌+◌, ◌*◌, length, drop, IfOk, All, string_bytes};
+ghost use Rattle.std.specs.Prelude.{◌≡◌, ◌≤◌, ◌<◌, ◌∷◌, ◌+◌, ◌*◌, length, drop, IfOk, IfSome, All, string_bytes};
 ghost use Rattle.std.specs.List.{prefix_len};
 ghost use Rattle.std.specs.Char.{IsAsciiAlphabetic, is_ascii_alphabetic};
-ghost use Rattle.cell_values.specs.declared.TheConstants.{LAST_COLUMN};
+ghost use Rattle.cell_values.specs.declared.TheConstants.{LAST_COLUMN, LAST_ROW};
 
 use crate::{LAST_COLUMN, LAST_ROW};
 use std::alloc::{AllocError, Global};
@@ -36,7 +36,8 @@ impl Addr {
     /// text has another form, or the column or the row is outside a sheet.
     #[tactic(auto, using(crate::proofs::CellTexts::letters_within, crate::proofs::CellTexts::letters_pass))]
     pub fn read(sheet: u8, text: &str) -> Option<Addr>
-        ensures { result ≡ read_addr sheet text.now }
+        ensures same { result ≡ read_addr sheet text.now }
+        ensures within { IfSome result IsOnSheet }
     {
         let text = text.as_bytes();
         let (letters, digits) = text.split_at(letter_count(text));
@@ -177,7 +178,8 @@ fn letter_count(text: &[u8]) -> usize
 #[tactic(auto, using(crate::proofs::CellTexts::column_start, crate::proofs::CellTexts::column_step, crate::proofs::CellTexts::column_done, crate::proofs::CellTexts::column_over))]
 fn read_column(letters: &[u8]) -> Option<u16>
     requires { All IsAsciiAlphabetic letters.now }
-    ensures { result ≡ named_column letters.now }
+    ensures same { result ≡ named_column letters.now }
+    ensures within { IfSome result (λ col. (1 ≤ col) × (col ≤ LAST_COLUMN)) }
 {
     let mut col = 0;
     for letter in letters {
@@ -192,7 +194,8 @@ fn read_column(letters: &[u8]) -> Option<u16>
 /// The row that digits name.
 #[tactic(auto, using(crate::proofs::CellTexts::row_start, crate::proofs::CellTexts::row_step, crate::proofs::CellTexts::row_done, crate::proofs::CellTexts::row_over, crate::proofs::CellTexts::row_ends))]
 fn read_row(digits: &[u8]) -> Option<u32>
-    ensures { result ≡ named_row digits.now }
+    ensures same { result ≡ named_row digits.now }
+    ensures within { IfSome result (λ row. (1 ≤ row) × (row ≤ LAST_ROW)) }
 {
     let mut row = 0;
     for digit in digits {

@@ -10,7 +10,7 @@ pub mod values;
 pub use address::{Addr, Area, column_text};
 pub use fields::{FieldText, Raw};
 pub use interned::{TextId, Texts};
-pub use names::{NameFault, SheetNames};
+pub use names::{NameFault, SheetNames, is_plain_name};
 pub use values::{Code, Shown, Value};
 
 /// A whole number of the formula language, of 128 bits.

@@ -86,7 +86,7 @@ impl SheetNames {
         ensures { IfOk result (λ text. string_bytes text ≡ prefix_text (slice_index_or self.now sheet [])) }
     {
         let name = self.names[usize::from(sheet)].as_str();
-        if is_plain(name) {
+        if is_plain_name(name) {
             format!(in alloc; "{name}!")
         } else {
             format!(in alloc; "'{name}'!")
@@ -177,9 +177,9 @@ fn may_stand(byte: u8) -> bool
     byte != b'\'' && byte != b'!' && !byte.is_ascii_control()
 }
 
-/// The name is a letter or `_` and then letters, digits and `_`.
+/// Whether a name is a letter or `_` and then letters, digits and `_`: such a name needs no quotes before a `!`.
 #[tactic(auto, unfolding(crate::specs::Names::is_plain_name))]
-fn is_plain(name: &str) -> bool
+pub fn is_plain_name(name: &str) -> bool
     ensures { result ≡ is_plain_name name.now }
 {
     match name.as_bytes() {
