@@ -1,15 +1,19 @@
 -- What single cells show, and what they need.
-use Rattle.std.proofs.Common.{◌≡◌, ℕ, refl, Option, Some, None, length}
+use Rattle.std.proofs.Common.{◌≡◌, ℕ, refl, sym, subst, Option, Some, None, List, [], ◌∷◌, length}
 use Rattle.cell_values.specs.declared.address.Addr.{Addr}
+use Rattle.cell_values.specs.declared.values.Shown.{Shown}
 use Rattle.cell_values.specs.declared.values.Value.{Value}
+use Rattle.cell_values.specs.Texts.{Texts}
 use Rattle.cell_values.specs.Order.{entry_at}
 use Rattle.cell_values.specs.Values.{IsShownOf, IsValueOf}
 use Rattle.formula_trees.specs.Expr.{Expr}
 use Rattle.demand_spec.specs.Book.{Book, Content, own_of, formula_at, own, finished, formulas, period, shown_from, shown}
+use Rattle.demand_spec.specs.Listed.{all_shown, shown_over, AreCellsOf, AreShownOf}
+use Rattle.demand_spec.specs.Stage.{book_with}
 use Rattle.demand_spec.specs.Results.{ShowsOwn, AreFoundOf, ShowsItsTexts, NeedsAreLacking, DemandsAreNeeds}
 use Rattle.demand_spec.proofs.Local.{ask_in}
 use Rattle.demand_spec.proofs.Loops.{need_from_demand}
-use Rattle.demand_spec.proofs.Texts.{finished_below}
+use Rattle.demand_spec.proofs.Texts.{content_text, finished_below}
 
 pub shows_own : ShowsOwn
 unfolding shown
@@ -45,3 +49,11 @@ needs_are_lacking b e at t x h = (let p = ask_in b e at t x h in (p.0, (p.1.tree
 
 pub demands_are_needs : DemandsAreNeeds
 demands_are_needs = need_from_demand
+
+-- all that is shown of a book
+pub all_text : (cells : List (Addr × Content)) (ts : Texts) (out : List (Addr × Shown)) → AreCellsOf ts cells → out ≡ all_shown (book_with cells ts) → AreShownOf ts out
+all_text cells ts out h e = subst (AreShownOf ts) (sym e) (over (formulas (book_with cells ts)))
+  where
+    over : (cs : List Addr) → AreShownOf ts (shown_over (book_with cells ts) cs)
+    over [] = tt
+    over (c ∷ cs) = (shows_its_texts (book_with cells ts) (λ a. content_text ts cells a h) c, over cs)

@@ -8,7 +8,7 @@ use Rattle.cell_values.specs.Addresses.{same_addr, IsBefore, IsOnSheet}
 use Rattle.cell_values.specs.Texts.{Texts, IsTextOf}
 use Rattle.formula_trees.specs.Expr.{Expr, Exprs, expr_of}
 use Rattle.formula_trees.specs.Sound.{IsSound}
-use Rattle.cell_values.specs.Values.{IsValueOf}
+use Rattle.cell_values.specs.Values.{IsValueOf, IsShownOf}
 use Rattle.demand_spec.specs.declared.Cell.{Cell}
 use Rattle.demand_spec.specs.Book.{Book, Content, Known, formulas, shown}
 use Rattle.formula_trees.specs.TextNumbers.{TextsBelow, AllTextsBelow}
@@ -25,8 +25,10 @@ contents (c ∷ rest) = (c.0, content_of c.1) ∷ contents rest
 
 -- a formula is sound at its cell
 abbrev pub IsSoundAt : Addr → Content → Type 0
+IsSoundAt at (Content.Number n) = Unit {0}
+IsSoundAt at (Content.Text t) = Unit {0}
+IsSoundAt at (Content.Truth b) = Unit {0}
 IsSoundAt at (Content.Formula t) = IsSound at t
-IsSoundAt at _ = Unit {0}
 
 -- each cell is on its sheet, and each formula is sound
 abbrev pub AllSound : List (Addr × Content) → Type 0
@@ -42,6 +44,11 @@ shown_over b (c ∷ rest) = (c, shown b c) ∷ shown_over b rest
 abbrev pub all_shown : Book → List (Addr × Shown)
 all_shown b = shown_over b (formulas b)
 
+-- what is shown has text numbers of these texts
+abbrev pub AreShownOf : Texts → List (Addr × Shown) → Type 0
+AreShownOf ts [] = Unit {0}
+AreShownOf ts (e ∷ rest) = IsShownOf ts e.1 × AreShownOf ts rest
+
 -- the text numbers of a formula, of a cell, of a book are numbers of these texts
 abbrev pub IsFormulaOf : Texts → Expr → Type 0
 IsFormulaOf ts t = TextsBelow (λ i. i < length ts) t
@@ -50,9 +57,10 @@ abbrev pub AreArgumentsOf : Texts → Exprs → Type 0
 AreArgumentsOf ts args = AllTextsBelow (λ i. i < length ts) args
 
 abbrev pub IsContentOf : Texts → Content → Type 0
+IsContentOf ts (Content.Number n) = Unit {0}
 IsContentOf ts (Content.Text t) = IsTextOf ts t
+IsContentOf ts (Content.Truth b) = Unit {0}
 IsContentOf ts (Content.Formula t) = IsFormulaOf ts t
-IsContentOf ts _ = Unit {0}
 
 abbrev pub AreCellsOf : Texts → List (Addr × Content) → Type 0
 AreCellsOf ts [] = Unit {0}

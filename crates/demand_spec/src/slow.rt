@@ -1,7 +1,7 @@
 //! What all formula cells of a book show.
 ghost use Rattle.std.specs.Prelude.{◌≡◌, length, option_and_then, IfOk, IsSome};
 ghost use Rattle.demand_spec.specs.Book.{finished, formula_at, is_at, need, period, shown};
-ghost use Rattle.demand_spec.specs.Listed.{all_shown, AreCellsOf};
+ghost use Rattle.demand_spec.specs.Listed.{all_shown, AreCellsOf, AreShownOf};
 ghost use Rattle.demand_spec.specs.Stage.{book_of, known_of, book_with};
 
 use crate::book::is_same;
@@ -83,7 +83,8 @@ pub fn slow_shown(
     texts: &Texts,
 ) -> Result<Vec<(Addr, Shown)>, AllocError>
     requires { AreCellsOf texts.now book.now }
-    ensures { IfOk result (λ v. v.items ≡ all_shown (book_with book.now texts.now)) }
+    ensures same { IfOk result (λ v. v.items ≡ all_shown (book_with book.now texts.now)) }
+    ensures texts { IfOk result (λ v. AreShownOf texts.now v.items) }
 {
     let known = finish(alloc, book, texts)?;
     let stage = Stage::over(book, texts, &known);

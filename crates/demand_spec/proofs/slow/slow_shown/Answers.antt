@@ -1,6 +1,10 @@
-use Rattle.std.proofs.Common.{sym, ap, ◌∙◌, subst, length}
+use Rattle.std.proofs.Common.{◌≡◌, arith, sym, ap, ◌∙◌, subst, length}
+use Rattle.std.proofs.lemmas.Grind.{common_steps}
+use Rattle.demand_spec.specs.Book.{formulas}
+use Rattle.demand_spec.specs.Listed.{all_shown}
+use Rattle.demand_spec.proofs.Results.{all_text}
 use Rattle.cell_values.specs.Order.{entry_at}
-use Rattle.demand_spec.specs.Stage.{Sight, book_of}
+use Rattle.demand_spec.specs.Stage.{Sight, book_of, book_with}
 use Rattle.demand_spec.proofs.Listed.{formula_element}
 use Rattle.demand_spec.proofs.Ordered.{IsBook, distinct_from_order, length-contents}
 use Rattle.demand_spec.proofs.Texts.{finished_text}
@@ -18,3 +22,9 @@ shown_of-requires-clause-formula c =
     (c.cells-cells.ensures.same ∙ sym (ap (λ (s : Sight). s.cells) c.over-stage.ensures))
     (subst IsBook (sym c.cells-cells.ensures.same) (distinct_from_order c.args.book.now c.cells-cells.ensures.in_order))
     c.loop-address-test.true c.loop-address-item.is c.in-Formula.is
+
+pub returns-clause-texts : goal.returns-clause-texts
+unfolding formulas
+returns-clause-texts c =
+    let e : c.loop-address.out.items ≡ all_shown (book_with c.args.book.now c.args.texts.now) = grind (arith, common_steps, c.loop-address.invariant, c.cells-cells.ensures.same) in
+    all_text c.args.book.now c.args.texts.now c.loop-address.out.items c.requires e
