@@ -16,7 +16,7 @@ use Rattle.demand_spec.specs.Laws.{In, Unfinished, NeedChain, Distinct, HasPerio
 use Rattle.demand_spec.proofs.Rounds.{in_formulas, finished_again}
 use Rattle.demand_spec.proofs.Loops.{follow_from, chain_follow}
 
--- distinct members of a list are no more than the list
+-- distinct cells that all stand in a list are no more than the list
 
 same_or_not : (a b : Addr) → (a ≡ b) ⊎ (a ≡ b → ⊥)
 same_or_not a b = ⊎_elim (λ (e : same_addr a b ≡ true). inl (same_addr-true a b e)) (λ (e : same_addr a b ≡ false). inr (λ q. let r = subst (λ z. same_addr a z ≡ true) q (same_addr-refl a) in cc)) (cases_Bool (same_addr a b))

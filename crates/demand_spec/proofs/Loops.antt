@@ -81,6 +81,7 @@ distinct_after (c ∷ below) cs h = distinct_after below cs h.1
 abbrev go_on : Book → Option Addr → Option Addr
 go_on b o = option_and_then (need b) o
 
+-- the steps behind the first one
 pub follow_from : (b : Book) (c x : Addr) → need b c ≡ Some x → (j : ℕ) → follow b (suc j) c ≡ follow b j x
 follow_from b c x e zero = e
 follow_from b c x e (suc j) = ap (go_on b) (follow_from b c x e j)
@@ -96,6 +97,7 @@ chain_step b [] y h j l = absurd (omega arith)
 chain_step b (s ∷ rest) y h zero l = h.0
 chain_step b (s ∷ rest) y h (suc j) l = chain_step b rest y h.1 j (omega arith)
 
+-- along a chain of needs the j-th step is its j-th cell
 pub chain_follow : (b : Book) (cs : List Addr) (y : Addr) → NeedChain b cs y → (j : ℕ) → j ≤ length cs → follow b j (get_or cs 0 y) ≡ Some (get_or cs j y)
 chain_follow b cs y h zero l = refl
 chain_follow b cs y h (suc j) l = ap (go_on b) (chain_follow b cs y h j (omega arith)) ∙ chain_step b cs y h j (omega arith)
