@@ -2,6 +2,8 @@
 #![tactic(auto)]
 
 ghost use Rattle.demand_spec.specs.Laws.{AskGrows, RoundsEnd, NeedIsThere, NeedIsMentioned, StackCloses, Carried, LoopsAreFound, ValuesShow, CyclesShow, LoopShows, OthersLead, PendingIsClosed, LoopInClosed, ShowsSame};
+ghost use Rattle.demand_spec.specs.Like.{MirroredBy, MirroredOutsideBy};
+ghost use Rattle.demand_spec.specs.Results.{ShowsOwn, ShowsItsTexts, NeedsAreLacking, DemandsAreNeeds};
 ghost use Rattle.demand_spec.specs.Recursion.{LiteralGives, ReferenceGives, SignGives, OperatorGives, ModGives, QuotientGives, AbsGives, IfGives, ShortIfGives, AndGives, OrGives, NoneGive, NotGives, IfErrorGives, IsErrorGives, ChooseGives, FoldGives, FoldEnds, IndexGives, MatchGives, VLookupGives, HLookupGives};
 
 mod ask;
@@ -87,6 +89,33 @@ pub fn law_closed()
 /// What an edit does not reach shows the same.
 pub fn law_shows_same()
     ensures { ShowsSame }
+{}
+
+/// What corresponds in two books: cells, and values.
+pub trait Correspondence {
+    ghost use Rattle.demand_spec.specs.Like.{OnCells, OnValues};
+
+    ghost on_cells: { OnCells };
+
+    ghost on_values: { OnValues };
+}
+
+/// Cells of two books that correspond show what corresponds; where cells were touched, those that none of these reaches.
+pub fn law_mirrored<C: Correspondence>()
+    ensures all { MirroredBy C.on_cells C.on_values }
+    ensures outside { MirroredOutsideBy C.on_cells C.on_values }
+{}
+
+/// A cell without a formula shows its own value, and each value that is shown has a text number of the book.
+pub fn law_shown_values()
+    ensures others { ShowsOwn }
+    ensures texts { ShowsItsTexts }
+{}
+
+/// What a formula needs is mentioned and lacking, and what it demands it needs in the end.
+pub fn law_needs()
+    ensures lacking { NeedsAreLacking }
+    ensures demanded { DemandsAreNeeds }
 {}
 
 /// What an operator gives, from what its operands give, the left one first.

@@ -15,7 +15,8 @@ use Rattle.demand_spec.specs.Book.{Book, Content, own, own_of, shown, formulas, 
 use Rattle.demand_spec.specs.Laws.{In}
 use Rattle.demand_spec.specs.Listed.{all_shown, shown_over, AreCellsOf, IsContentOf}
 use Rattle.builtin_functions.specs.Tables.{IsValueOf as IsOperandOf}
-use Rattle.demand_spec.proofs.Texts.{finished_text}
+use Rattle.demand_spec.proofs.Results.{shows_own, shows_its_texts}
+use Rattle.demand_spec.proofs.Texts.{content_text}
 use Rattle.demand_spec.proofs.Rounds.{same_addr-true, same_addr-refl, in_formulas}
 use Rattle.puncalc_program.specs.Recalculated.{result_in, result_or, IsLoaded, IsRecalculated}
 
@@ -82,60 +83,18 @@ unlisted b a out = go (formula_at b a) refl
     go None e = e
     go (Some t) e = absurd (out (in_formulas b a t e))
 
-own_shown : (b : Book) (a : Addr) → formula_at b a ≡ None → Shown.Val (own b a) ≡ shown b a
-unfolding shown
-own_shown b a e = ap (λ f. shown_from f (own b a) (finished b a) (returns b (length (formulas b)) a)) (sym e)
-
 pub results_show : (b : Book) (a : Addr) → result_or (result_in (all_shown b) a) (own b a) ≡ shown b a
 results_show b a = go (found b (formulas b) a)
   where
     go : (result_in (all_shown b) a ≡ Some (shown b a)) ⊎ ((result_in (all_shown b) a ≡ None) × (In a (formulas b) → ⊥)) → result_or (result_in (all_shown b) a) (own b a) ≡ shown b a
     go (inl e) = ap (λ o. result_or o (own b a)) e
-    go (inr (e, out)) = ap (λ o. result_or o (own b a)) e ∙ own_shown b a (unlisted b a out)
-
--- text numbers
-
-content_text : (ts : Texts) (x : Content) → IsContentOf ts x → IsValueOf ts (own_of (Some x))
-content_text ts (Content.Number n) k = tt
-content_text ts (Content.Text t) k = k
-content_text ts (Content.Truth t) k = tt
-content_text ts (Content.Formula t) k = tt
-
-own_text : (ts : Texts) (cs : List (Addr × Content)) (a : Addr) → AreCellsOf ts cs → IsValueOf ts (own_of (cell_in cs a))
-own_text ts [] a h = tt
-own_text ts (c ∷ rest) a (h, hs) = go (same_addr a c.0) (content_text ts c.1 h) (own_text ts rest a hs)
-  where
-    go : (s : Bool) → IsValueOf ts (own_of (Some c.1)) → IsValueOf ts (own_of (cell_in rest a)) → IsValueOf ts (own_of (cond s (Some c.1) (cell_in rest a)))
-    go true k r = k
-    go false k r = r
-
-value_own : (b : Book) (a : Addr) → AreCellsOf b.texts b.cells → IsValueOf b.texts (own b a)
-unfolding own
-value_own b a cs = own_text b.texts b.cells a cs
-
-value_text : (ts : Texts) (v : Value) → IsOperandOf ts v → IsValueOf ts v
-value_text ts (Value.Number n) h = tt
-value_text ts (Value.Text t) h = h
-value_text ts (Value.Bool b) h = tt
-value_text ts Value.Blank h = tt
-value_text ts (Value.Error c) h = tt
-
--- what a cell shows has a text number of the book's texts
-shown_text : (b : Book) (a : Addr) → AreCellsOf b.texts b.cells → IsShownOf b.texts (shown b a)
-unfolding shown
-shown_text b a cs = go (formula_at b a) (finished b a) (returns b (length (formulas b)) a) (λ v e. value_text b.texts v (finished_text b.cells b.texts (finished b) cs refl a v e))
-  where
-    go : (f : Option Expr) (o : Option Value) (r : Bool) → ((v : Value) → o ≡ Some v → IsValueOf b.texts v) → IsShownOf b.texts (shown_from f (own b a) o r)
-    go None o r h = value_own b a cs
-    go (Some t) (Some w) r h = h w refl
-    go (Some t) None true h = tt
-    go (Some t) None false h = tt
+    go (inr (e, out)) = ap (λ o. result_or o (own b a)) e ∙ sym (shows_own b a (unlisted b a out))
 
 pub recalculated : (b : Book) (rows columns : ℕ) (xs results : List (Addr × Shown)) → IsLoaded b rows columns → xs ≡ all_shown b →
     ((a : Addr) → result_in results a ≡ result_in xs a) → IsRecalculated b results rows columns
 recalculated b rows columns xs results h e same = record {
   shows = show;
-  texts = λ a. subst (IsShownOf b.texts) (sym (show a)) (shown_text b a h.texts);
+  texts = λ a. subst (IsShownOf b.texts) (sym (show a)) (shows_its_texts b (λ x. content_text b.texts b.cells x h.texts) a);
   extent = h.extent;
 }
   where
