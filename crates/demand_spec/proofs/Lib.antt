@@ -18,4 +18,8 @@ pub mod Plain
 pub mod Like
 pub mod Mirror
 pub mod Untouched
+pub mod OneList
+pub mod Members
+pub mod Applied
+pub mod Spread
 pub mod Results

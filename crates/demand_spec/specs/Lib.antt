@@ -10,4 +10,5 @@ pub mod Recursion
 pub mod Rounds
 pub mod Given
 pub mod Like
+pub mod Edits
 pub mod Results

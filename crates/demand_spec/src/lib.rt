@@ -4,6 +4,7 @@
 ghost use Rattle.demand_spec.specs.Laws.{AskGrows, RoundsEnd, NeedIsThere, NeedIsMentioned, StackCloses, Carried, LoopsAreFound, ValuesShow, CyclesShow, LoopShows, OthersLead, PendingIsClosed, LoopInClosed, ShowsSame};
 ghost use Rattle.demand_spec.specs.Like.{MirroredBy, MirroredOutsideBy};
 ghost use Rattle.demand_spec.specs.Results.{ShowsOwn, ShowsItsTexts, NeedsAreLacking, DemandsAreNeeds};
+ghost use Rattle.demand_spec.specs.Edits.{CellsAreLookups, ListsAreMembers, EditApplies, AppliedOnly, TooLargeByLength, PendingListed, PendingListIsClosed, AllStayPending};
 ghost use Rattle.demand_spec.specs.Recursion.{LiteralGives, ReferenceGives, SignGives, OperatorGives, ModGives, QuotientGives, AbsGives, IfGives, ShortIfGives, AndGives, OrGives, NoneGive, NotGives, IfErrorGives, IsErrorGives, ChooseGives, FoldGives, FoldEnds, IndexGives, MatchGives, VLookupGives, HLookupGives};
 
 mod ask;
@@ -104,6 +105,26 @@ pub trait Correspondence {
 pub fn law_mirrored<C: Correspondence>()
     ensures all { MirroredBy C.on_cells C.on_values }
     ensures outside { MirroredOutsideBy C.on_cells C.on_values }
+{}
+
+/// Cells in order are told by what is found at each address, and addresses in order by which they are.
+pub fn law_one_list()
+    ensures cells { CellsAreLookups }
+    ensures addresses { ListsAreMembers }
+{}
+
+/// An edit makes exactly the cells that `applied` says, and is too large exactly where these are too many.
+pub fn law_edits_apply()
+    ensures applies { EditApplies }
+    ensures alone { AppliedOnly }
+    ensures too_large { TooLargeByLength }
+{}
+
+/// The cells that an edit leaves pending are a list that a function tells, and they stay closed.
+pub fn law_pending_listed()
+    ensures listed { PendingListed }
+    ensures closed { PendingListIsClosed }
+    ensures all { AllStayPending }
 {}
 
 /// A cell without a formula shows its own value, and each value that is shown has a text number of the book.
