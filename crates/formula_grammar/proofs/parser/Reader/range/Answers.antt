@@ -1,6 +1,6 @@
 use Rattle.std.proofs.lemmas.Result.{err_from_is_err_and}
 use Rattle.formula_grammar.proofs.Reading as R
-use Rattle.formula_grammar.proofs.reader.Reader.range.Goals as goal
+use Rattle.formula_grammar.proofs.parser.Reader.range.Goals as goal
 
 pub returns-in_err-first-clause-err : goal.returns-in_err-first-clause-err
 returns-in_err-first-clause-err c =

@@ -1,6 +1,6 @@
 use Rattle.std.proofs.lemmas.Result.{err_from_is_err_and}
 use Rattle.formula_grammar.proofs.Reading as R
-use Rattle.formula_grammar.proofs.reader.Reader.second.Goals as goal
+use Rattle.formula_grammar.proofs.parser.Reader.second.Goals as goal
 
 pub returns-in_err-second-clause-err : goal.returns-in_err-second-clause-err
 returns-in_err-second-clause-err c =

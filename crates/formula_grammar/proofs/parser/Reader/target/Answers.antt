@@ -2,7 +2,7 @@ use Rattle.std.proofs.Common.{sym, ap, ◌∙◌}
 use Rattle.std.proofs.lemmas.Result.{err_from_is_err_and}
 use Rattle.formula_tokens.specs.declared.token.Token.{Token}
 use Rattle.formula_grammar.proofs.Reading as R
-use Rattle.formula_grammar.proofs.reader.Reader.target.Goals as goal
+use Rattle.formula_grammar.proofs.parser.Reader.target.Goals as goal
 
 pub returns-in_err-word-in-Prefix-Some-clause-err : goal.returns-in_err-word-in-Prefix-Some-clause-err
 returns-in_err-word-in-Prefix-Some-clause-err c =

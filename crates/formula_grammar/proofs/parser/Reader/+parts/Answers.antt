@@ -4,7 +4,7 @@ use Rattle.formula_trees.specs.Expr.{expr_of, exprs_of, Unary, More}
 use Rattle.formula_grammar.specs.Fault.{own_fault}
 use Rattle.formula_grammar.specs.Rest.{sign_token}
 use Rattle.formula_grammar.proofs.Reading as R
-use Rattle.formula_grammar.proofs.reader.Reader.+parts.Goals as goal
+use Rattle.formula_grammar.proofs.parser.Reader.+parts.Goals as goal
 
 pub expression-loop-op-init : goal.expression-loop-op-init
 expression-loop-op-init t c = record {

@@ -2,7 +2,7 @@ use Rattle.std.proofs.Common.{ap}
 use Rattle.std.proofs.lemmas.Result.{err_from_is_err_and}
 use Rattle.formula_trees.specs.Expr.{Ref}
 use Rattle.formula_grammar.proofs.Reading as R
-use Rattle.formula_grammar.proofs.reader.Reader.reference.Goals as goal
+use Rattle.formula_grammar.proofs.parser.Reader.reference.Goals as goal
 
 pub returns-in_err-named-clause-err : goal.returns-in_err-named-clause-err
 returns-in_err-named-clause-err c =

@@ -2,7 +2,7 @@ use Rattle.std.proofs.Common.{◌∙◌, ◌≤◌, List, length, ap, sym, subst
 use Rattle.formula_tokens.specs.declared.token.Spot.{Spot}
 use Rattle.formula_tokens.specs.Tokens.{spots_of, with_literals, TextsAreOf}
 use Rattle.formula_grammar.proofs.Answered.{refused, knows, first_known, second_known}
-use Rattle.formula_grammar.proofs.read.read_formula.Goals as goal
+use Rattle.formula_grammar.proofs.formula.read_formula.Goals as goal
 
 pub returns-in-Ok-clause-refused : goal.returns-in-Ok-clause-refused
 returns-in-Ok-clause-refused c =

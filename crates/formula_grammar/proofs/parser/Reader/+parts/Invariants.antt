@@ -2,7 +2,7 @@ use Rattle.std.proofs.Common.{◌<◌, ◌≤◌, ◌+◌, length, ◌*◌}
 use Rattle.formula_trees.specs.Expr.{expr_of}
 use Rattle.formula_grammar.specs.Rest.{next_token, token_level}
 use Rattle.formula_grammar.specs.Parts.{ReadsExpression, ReadsSums, ReadsTerm}
-use Rattle.formula_grammar.proofs.reader.Reader.+parts.Given as goal
+use Rattle.formula_grammar.proofs.parser.Reader.+parts.Given as goal
 
 abbrev pub decreases-argument : goal.decreases-argument
 decreases-argument l = 10 * length l.self.now.spots + 8
