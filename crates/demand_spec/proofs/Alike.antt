@@ -20,8 +20,10 @@ use Rattle.builtin_functions.specs.declared.operators.Sign2.{Sign2}
 use Rattle.builtin_functions.specs.declared.folds.FoldKind.{FoldKind}
 use Rattle.formula_trees.specs.References.{resolve, area_between}
 use Rattle.cell_values.specs.Areas.{numbers_from, height, width, cell_of, row_of, column_of, walk}
-use Rattle.demand_spec.specs.Formula.{fails, unless_error, value_of, or_fail, condition_of, if_number, Argument, if_cells, if_up_to, if_plan, and_plan, or_plan, not_plan, value_at, from_one, chosen, choose_plan, if_error_plan, is_error_plan, go_on, fold_cells, fold_argument, fold_plan, one_number, two_numbers, is_found, search_plan, index_plan, match_plan, v_lookup_plan, h_lookup_plan, call_plan, demand_of, op_of, sign_of, plan, arguments}
-use Rattle.formula_trees.specs.Mentions.{Place, Nowhere, Bad, Cells, place_from, place_of, cells_of, mentions, mentions_all}
+use Rattle.demand_spec.specs.Formula.{fails, unless_error, value_of, or_fail, condition_of, if_number, Argument, if_cells, if_up_to, if_plan, and_plan, or_plan, not_plan, value_at, from_one, chosen, choose_plan, if_error_plan, is_error_plan, go_on, fold_cells, fold_argument, fold_plan, one_number, two_numbers, is_found, search_plan, index_plan, match_plan, v_lookup_plan, h_lookup_plan, call_plan, demand_of, op_of, sign_of, operator_value, sign_value, plan, arguments}
+use Rattle.formula_trees.specs.declared.place.Place.{Place}
+use Rattle.formula_trees.specs.declared.place.Place.TheVariants.{Nowhere, Bad, Cells}
+use Rattle.formula_trees.specs.Mentions.{place_from, place_of, cells_of, mentions, mentions_all}
 use Rattle.builtin_functions.specs.Folds.{Total, taken}
 use Rattle.demand_spec.specs.Laws.{In}
 use Rattle.formula_trees.specs.TextNumbers.{TextsBelow, AllTextsBelow}
@@ -243,6 +245,16 @@ table_alike n ts us h Op2.Gt a b p q = rw (order_alike n ts us h a b p q) refl
 table_alike n ts us h Op2.Ge a b p q = rw (order_alike n ts us h a b p q) refl
 table_alike n ts us h o a b p q = refl
 
+-- operators and signs, at any values
+operator_alike : (n : ℕ → Type 0) (ts us : Texts) → SameTexts n ts us → (o : Op) (a b : Value) → TextBelow n a → TextBelow n b → operator_value ts o a b ≡ operator_value us o a b
+operator_alike n ts us h o a b p q = ap (λ z. cond (is_error a) a (cond (is_error b) b z)) (table_alike n ts us h (op_of o) a b p q)
+
+operator_below : (n : ℕ → Type 0) (ts : Texts) (o : Op) (a b : Value) → TextBelow n a → TextBelow n b → TextBelow n (operator_value ts o a b)
+operator_below n ts o a b p q = cond_below n (is_error a) a _ p (cond_below n (is_error b) b _ q (table_below n ts (op_of o) a b))
+
+sign_value_below : (n : ℕ → Type 0) (s : Sign) (a : Value) → TextBelow n a → TextBelow n (sign_value s a)
+sign_value_below n s a p = cond_below n (is_error a) a _ p (sign_below n (sign_of s) a)
+
 is_found_alike : (n : ℕ → Type 0) (ts us : Texts) → SameTexts n ts us → (key v : Value) → TextBelow n key → TextBelow n v → is_found ts key v ≡ is_found us key v
 is_found_alike n ts us h key (Value.Error e) p q = refl
 is_found_alike n ts us h key Value.Blank p q = refl
@@ -379,10 +391,10 @@ mutual
   plan_alike L n ts us s at (Ref r) ok h = demand_alike L n (resolve at r) h
   plan_alike L n ts us s at (Range p q) ok h = (refl, tt)
   plan_alike L n ts us s at RefError ok h = (refl, tt)
-  plan_alike L n ts us s at (Unary g a) ok h = value_of_alike L n (λ x. Give (sign_table (sign_of g) x)) (λ x. Give (sign_table (sign_of g) x)) (λ x t. (refl, sign_below n (sign_of g) x)) (plan ts at a) (plan us at a) (plan_alike L n ts us s at a ok h)
+  plan_alike L n ts us s at (Unary g a) ok h = value_of_alike L n (λ x. Give (sign_value g x)) (λ x. Give (sign_value g x)) (λ x t. (refl, sign_value_below n g x t)) (plan ts at a) (plan us at a) (plan_alike L n ts us s at a ok h)
   plan_alike L n ts us s at (Binary o a b) ok h =
-      value_of_alike L n (λ x. value_of (plan ts at b) (λ y. Give (table ts (op_of o) x y))) (λ x. value_of (plan us at b) (λ y. Give (table us (op_of o) x y)))
-      (λ x t. value_of_alike L n (λ y. Give (table ts (op_of o) x y)) (λ y. Give (table us (op_of o) x y)) (λ y u. (table_alike n ts us s (op_of o) x y t u, table_below n ts (op_of o) x y)) (plan ts at b) (plan us at b) (plan_alike L n ts us s at b ok.1 (λ x k. h x (in_right x (mentions at a) (mentions at b) k))))
+      value_of_alike L n (λ x. value_of (plan ts at b) (λ y. Give (operator_value ts o x y))) (λ x. value_of (plan us at b) (λ y. Give (operator_value us o x y)))
+      (λ x t. value_of_alike L n (λ y. Give (operator_value ts o x y)) (λ y. Give (operator_value us o x y)) (λ y u. (operator_alike n ts us s o x y t u, operator_below n ts o x y t u)) (plan ts at b) (plan us at b) (plan_alike L n ts us s at b ok.1 (λ x k. h x (in_right x (mentions at a) (mentions at b) k))))
       (plan ts at a) (plan us at a) (plan_alike L n ts us s at a ok.0 (λ x k. h x (in_left x (mentions at a) (mentions at b) k)))
   plan_alike L n ts us s at (Call f args) ok h =
       subst (λ z. Alike L n (call_plan ts f z) (call_plan us f (arguments us at args))) (lefts_are ts us at args)

@@ -10,7 +10,9 @@ use Rattle.formula_trees.specs.declared.tree.Fun.{Fun}
 use Rattle.formula_trees.specs.declared.tree.Op.{Op}
 use Rattle.formula_trees.specs.declared.tree.Sign.{Sign}
 use Rattle.formula_trees.specs.Expr.{Expr, Exprs, Unary, Binary, Call, End, More}
-use Rattle.formula_trees.specs.Mentions.{Place, Nowhere, Bad, Cells, place_of}
+use Rattle.formula_trees.specs.declared.place.Place.{Place}
+use Rattle.formula_trees.specs.declared.place.Place.TheVariants.{Nowhere, Bad, Cells}
+use Rattle.formula_trees.specs.Mentions.{place_of}
 use Rattle.builtin_functions.specs.declared.operators.Op2.{Op2}
 use Rattle.builtin_functions.specs.declared.operators.Sign2.{Sign2}
 use Rattle.builtin_functions.specs.declared.folds.FoldKind.{FoldKind}
@@ -20,9 +22,9 @@ use Rattle.builtin_functions.specs.Folds.{Total, taken}
 use Rattle.demand_spec.specs.declared.Asked.{Asked}
 use Rattle.demand_spec.specs.declared.Asked.TheVariants.{Val, Needs}
 use Rattle.demand_spec.specs.Plan.{Plan, Give, Demand, and_then, after, run}
-use Rattle.demand_spec.specs.Formula.{fails, unless_error, value_of, or_fail, condition_of, if_number, if_cells, if_up_to, and_plan, or_plan, from_one, chosen, go_on, fold_cells, fold_argument, fold_plan, is_found, search_plan, demand_of, op_of, sign_of, plan, arguments}
+use Rattle.demand_spec.specs.Formula.{fails, unless_error, value_of, or_fail, condition_of, if_number, if_cells, if_up_to, and_plan, or_plan, from_one, chosen, go_on, fold_cells, fold_argument, fold_plan, is_found, search_plan, demand_of, operator_value, sign_value, value_at, plan, arguments}
 use Rattle.demand_spec.specs.Book.{Book, Known, look, ask}
-use Rattle.demand_spec.specs.Asks.{answer_of, ask_two, index_steps, match_steps, v_lookup_steps, h_lookup_steps, on_with, and_on, any_value, value_or_end, or_fails, condition_or_end, number_or_end, cells_or_end, up_to_or_end, found_or_end, if_error, ask_value_at, ask_chosen, fold_looks, fold_part, ask_fold, search_looks}
+use Rattle.demand_spec.specs.Asks.{answer_of, ask_two, index_steps, match_steps, v_lookup_steps, h_lookup_steps, on_with, and_on, any_value, value_or_end, or_fails, condition_or_end, number_or_end, cells_or_end, up_to_or_end, found_or_end, if_error, argument_at, ask_argument, ask_chosen, fold_looks, fold_part, ask_fold, search_looks}
 use Rattle.demand_spec.specs.Recursion.{LiteralGives, ReferenceGives}
 use Rattle.demand_spec.proofs.Plans.{run-and_then}
 
@@ -78,13 +80,10 @@ run-demand l a = go (l a)
 
 -- the operators at values that are no errors
 unary_is : (s : Sign2) (v : Value) → IsFalse (is_error v) → unary_value s v ≡ sign_table s v
-unary_is s (Value.Error e) h = cc
-unary_is s v h = refl
+unary_is s v h = ap (λ q. cond q v (sign_table s v)) h
 
 binary_is : (ts : Texts) (o : Op2) (v w : Value) → IsFalse (is_error v) → IsFalse (is_error w) → binary_value ts o v w ≡ table ts o v w
-binary_is ts o (Value.Error e) w h k = cc
-binary_is ts o v (Value.Error e) h k = cc
-binary_is ts o v w h k = refl
+binary_is ts o v w h k = ap (λ q. cond q v (cond (is_error w) w (table ts o v w))) h ∙ ap (λ q. cond q w (table ts o v w)) k
 
 -- a value that is found is what a look gives
 pub answer_any : (r : Asked) → answer_of (any_value r) ≡ r
@@ -97,8 +96,8 @@ literal_gives b e at = (λ n. refl, λ t. refl, λ q. refl, refl)
 pub reference_gives : ReferenceGives
 reference_gives b e at r = (λ a h. ap (λ o. run (look b e) (demand_of o)) h ∙ run-demand (look b e) a, λ h. ap (λ o. run (look b e) (demand_of o)) h)
 
-pub ask_unary : (b : Book) (e : Known) (at : Addr) (s : Sign) (t : Expr) → ask b e at (Unary s t) ≡ on_with (value_or_end (ask b e at t)) (λ x. Val (sign_table (sign_of s) x))
-ask_unary b e at s t = run-value_of (look b e) (plan b.texts at t) (λ x. Give (sign_table (sign_of s) x))
+pub ask_unary : (b : Book) (e : Known) (at : Addr) (s : Sign) (t : Expr) → ask b e at (Unary s t) ≡ on_with (value_or_end (ask b e at t)) (λ x. Val (sign_value s x))
+ask_unary b e at s t = run-value_of (look b e) (plan b.texts at t) (λ x. Give (sign_value s x))
 
 -- two values in turn, as an operator or a function of two takes them
 two_values : (b : Book) (e : Known) (at : Addr) (f : Value → Value → Value) (t u : Expr) → run (look b e) (value_of (plan b.texts at t) (λ x. value_of (plan b.texts at u) (λ y. Give (f x y)))) ≡ on_with (value_or_end (ask b e at t)) (λ x. on_with (value_or_end (ask b e at u)) (λ y. Val (f x y)))
@@ -106,8 +105,8 @@ two_values b e at f t u =
     run-value_of (look b e) (plan b.texts at t) (λ x. value_of (plan b.texts at u) (λ y. Give (f x y)))
     ∙ ap (on_with (value_or_end (ask b e at t))) (λ i x. run-value_of (look b e) (plan b.texts at u) (λ y. Give (f x y)) i)
 
-pub ask_binary : (b : Book) (e : Known) (at : Addr) (o : Op) (t u : Expr) → ask b e at (Binary o t u) ≡ on_with (value_or_end (ask b e at t)) (λ x. on_with (value_or_end (ask b e at u)) (λ y. Val (table b.texts (op_of o) x y)))
-ask_binary b e at o t u = two_values b e at (table b.texts (op_of o)) t u
+pub ask_binary : (b : Book) (e : Known) (at : Addr) (o : Op) (t u : Expr) → ask b e at (Binary o t u) ≡ on_with (value_or_end (ask b e at t)) (λ x. on_with (value_or_end (ask b e at u)) (λ y. Val (operator_value b.texts o x y)))
+ask_binary b e at o t u = two_values b e at (operator_value b.texts o) t u
 
 pub ask_mod : (b : Book) (e : Known) (at : Addr) (t u : Expr) → ask b e at (Call Fun.Mod (More t (More u End))) ≡ on_with (value_or_end (ask b e at t)) (λ x. on_with (value_or_end (ask b e at u)) (λ y. Val (table b.texts Op2.Mod x y)))
 ask_mod b e at t u = two_values b e at (table b.texts Op2.Mod) t u
@@ -153,22 +152,24 @@ ask_is_error b e at t = run-and_then (look b e) (plan b.texts at t) (λ v. Give 
     go (Val v) = refl
     go (Needs x) = refl
 
+-- the argument with a number
+value_at_is : (b : Book) (e : Known) (at : Addr) (n : ℕ) (args : Exprs) → run (look b e) (value_at n (arguments b.texts at args)) ≡ ask_argument b e at (argument_at n args)
+value_at_is b e at n End = refl
+value_at_is b e at zero (More a rest) = refl
+value_at_is b e at (suc n) (More a rest) = value_at_is b e at n rest
+
 pub ask_choose : (b : Book) (e : Known) (at : Addr) (t : Expr) (rest : Exprs) → ask b e at (Call Fun.Choose (More t rest)) ≡ on_with (value_or_end (ask b e at t)) (λ v. on_with (number_or_end (as_number v)) (λ z. ask_chosen b e at (from_one z) rest))
 ask_choose b e at t rest =
     run-value_of (look b e) (plan b.texts at t) (λ v. if_number (as_number v) (λ z. chosen (from_one z) (arguments b.texts at rest)))
     ∙ ap (on_with (value_or_end (ask b e at t))) (λ i v. by_number (as_number v) i)
   where
     by_chosen : (o : Option ℕ) → run (look b e) (chosen o (arguments b.texts at rest)) ≡ ask_chosen b e at o rest
-    by_chosen (Some n) = refl
+    by_chosen (Some n) = value_at_is b e at n rest
     by_chosen None = refl
 
     by_number : (o : Option ℤ) → run (look b e) (if_number o (λ z. chosen (from_one z) (arguments b.texts at rest))) ≡ on_with (number_or_end o) (λ z. ask_chosen b e at (from_one z) rest)
     by_number (Some z) = by_chosen (from_one z)
     by_number None = refl
-
-pub value_at_later : (b : Book) (e : Known) (at : Addr) (n : ℕ) (x : Expr) (rest : Exprs) → 0 < n → ask_value_at b e at n (More x rest) ≡ ask_value_at b e at (n - 1) rest
-value_at_later b e at zero x rest h = absurd (omega arith)
-value_at_later b e at (suc n) x rest h = (let same : n ≡ suc n - 1 = omega arith in ap (λ z. ask_value_at b e at z rest) same)
 
 -- SUM, MIN, MAX, COUNT
 
@@ -258,17 +259,11 @@ on_value (Needs x) f g h = refl
 on_value (Val (Value.Error e)) f g h = refl
 on_value (Val v) f g h = h v refl
 
-pub ask_unary_all : (b : Book) (e : Known) (at : Addr) (s : Sign) (t : Expr) → ask b e at (Unary s t) ≡ on_with (value_or_end (ask b e at t)) (λ x. Val (unary_value (sign_of s) x))
-ask_unary_all b e at s t = ask_unary b e at s t ∙ on_value (ask b e at t) _ _ (λ v h. ap Val (sym (unary_is (sign_of s) v h)))
-
 pub ask_abs_all : (b : Book) (e : Known) (at : Addr) (t : Expr) → ask b e at (Call Fun.Abs (More t End)) ≡ on_with (value_or_end (ask b e at t)) (λ x. Val (unary_value Sign2.Abs x))
 ask_abs_all b e at t = ask_abs b e at t ∙ on_value (ask b e at t) _ _ (λ v h. ap Val (sym (unary_is Sign2.Abs v h)))
 
 two_all : (b : Book) (e : Known) (at : Addr) (o : Op2) (t u : Expr) → on_with (value_or_end (ask b e at t)) (λ x. on_with (value_or_end (ask b e at u)) (λ y. Val (table b.texts o x y))) ≡ on_with (value_or_end (ask b e at t)) (λ x. on_with (value_or_end (ask b e at u)) (λ y. Val (binary_value b.texts o x y)))
 two_all b e at o t u = on_value (ask b e at t) _ _ (λ v h. on_value (ask b e at u) _ _ (λ w k. ap Val (sym (binary_is b.texts o v w h k))))
-
-pub ask_binary_all : (b : Book) (e : Known) (at : Addr) (o : Op) (t u : Expr) → ask b e at (Binary o t u) ≡ on_with (value_or_end (ask b e at t)) (λ x. on_with (value_or_end (ask b e at u)) (λ y. Val (binary_value b.texts (op_of o) x y)))
-ask_binary_all b e at o t u = ask_binary b e at o t u ∙ two_all b e at (op_of o) t u
 
 pub ask_two_all : (b : Book) (e : Known) (at : Addr) (o : Op2) (t u : Expr) → ask_two b e at o (More t (More u End)) ≡ on_with (value_or_end (ask b e at t)) (λ x. on_with (value_or_end (ask b e at u)) (λ y. Val (binary_value b.texts o x y)))
 ask_two_all b e at o t u = two_values b e at (table b.texts o) t u ∙ two_all b e at o t u

@@ -1,5 +1,5 @@
 -- What arguments give, and what rules make of it.
-use Rattle.std.proofs.Common.{◌≡◌, ℕ, ◌-◌, ◌<◌, ℤ, true, false, arith, Option, Some, None, Result, Ok, Err, refl, sym, ap, ◌∙◌, subst}
+use Rattle.std.proofs.Common.{◌≡◌, ℕ, zero, suc, ◌-◌, ℤ, true, false, arith, Option, Some, None, Result, Ok, Err, refl, sym, ap, ◌∙◌, subst}
 use Rattle.cell_values.specs.declared.values.Value.{Value}
 use Rattle.cell_values.specs.declared.address.Addr.{Addr}
 use Rattle.cell_values.specs.Texts.{Texts}
@@ -7,7 +7,9 @@ use Rattle.formula_trees.specs.declared.tree.Fun.{Fun}
 use Rattle.formula_trees.specs.declared.tree.Op.{Op}
 use Rattle.formula_trees.specs.declared.tree.Sign.{Sign}
 use Rattle.formula_trees.specs.Expr.{Expr, Exprs, Unary, Binary, Call, End, More}
-use Rattle.formula_trees.specs.Mentions.{Place, Nowhere, Bad, Cells, place_of}
+use Rattle.formula_trees.specs.declared.place.Place.{Place}
+use Rattle.formula_trees.specs.declared.place.Place.TheVariants.{Nowhere, Bad, Cells}
+use Rattle.formula_trees.specs.Mentions.{place_of}
 use Rattle.builtin_functions.specs.declared.folds.FoldKind.{FoldKind}
 use Rattle.builtin_functions.specs.declared.operators.Op2.{Op2}
 use Rattle.builtin_functions.specs.declared.operators.Sign2.{Sign2}
@@ -17,24 +19,17 @@ use Rattle.demand_spec.specs.declared.Asked.{Asked}
 use Rattle.demand_spec.specs.declared.Asked.TheVariants.{Val, Needs}
 use Rattle.demand_spec.specs.declared.given.Argument.{Argument}
 use Rattle.demand_spec.specs.declared.given.Given.{Given}
-use Rattle.demand_spec.specs.Asks.{on_with, and_on, value_or_end, number_or_end, ask_value_at, ask_chosen, ask_fold, ask_two, fold_part, index_steps, v_lookup_steps, h_lookup_steps}
-use Rattle.demand_spec.specs.Formula.{from_one, op_of, sign_of}
-use Rattle.demand_spec.specs.Given.{IsAnswerOf, argument_of, given_before, given_by, index_or_end, if_then, sign_of_one, operator_of_two, if_rule, not_rule, if_error_rule, is_error_rule, sign_rule, operator_rule, index_rule, match_of, match_rule, lookup_of, lookup_rule}
-use Rattle.demand_spec.specs.Places.{seen, place_seen}
+use Rattle.demand_spec.specs.Asks.{on_with, and_on, value_or_end, number_or_end, argument_at, ask_argument, ask_chosen, ask_fold, ask_two, fold_part, index_steps, v_lookup_steps, h_lookup_steps}
+use Rattle.demand_spec.specs.Formula.{from_one}
+use Rattle.demand_spec.specs.Given.{IsAnswerOf, argument_of, given_before, given_by, index_or_end, if_then, sign_of_one, operator_of_two, if_rule, not_rule, if_error_rule, is_error_rule, abs_rule, two_rule, index_rule, match_of, match_rule, lookup_of, lookup_rule}
 use Rattle.demand_spec.specs.Stage.{Sight, book_of, known_of, look_on, ask_on}
-use Rattle.demand_spec.proofs.Asks.{ask_unary_all, ask_binary_all, ask_and_more, ask_or_more, value_at_later, ask_if_two, ask_if_three, ask_not, ask_if_error, ask_is_error, ask_abs_all, ask_two_all, ask_index_steps, ask_match_steps, ask_v_lookup_steps, ask_h_lookup_steps, ask_choose, ask_fold_more}
+use Rattle.demand_spec.proofs.Asks.{ask_unary, ask_binary, ask_and_more, ask_or_more, ask_if_two, ask_if_three, ask_not, ask_if_error, ask_is_error, ask_abs_all, ask_two_all, ask_index_steps, ask_match_steps, ask_v_lookup_steps, ask_h_lookup_steps, ask_choose, ask_fold_more}
 
 -- a value that goes on is of these texts
 pub value_is_of : (ts : Texts) (a : Asked) (v : Value) → IsAnswerOf ts a → Ok v ≡ value_or_end a → IsValueOf ts v
 value_is_of ts (Val (Value.Error e)) v h e2 = cc
 value_is_of ts (Val w) v h e = (let same : w ≡ v = cc in subst (IsValueOf ts) same h)
 value_is_of ts (Needs x) v h e = cc
-
--- where an argument stands, there and back
-seen_back : (p : Place) → place_seen (seen p) ≡ p
-seen_back Nowhere = refl
-seen_back Bad = refl
-seen_back (Cells r) = refl
 
 -- four arguments or more
 given_four : (s : Sight) (at : Addr) (a b c d : Expr) (rest : Exprs) → given_by s at (More a (More b (More c (More d rest)))) ≡ Given.Four (argument_of s at a) (argument_of s at b) (argument_of s at c)
@@ -77,35 +72,35 @@ is_error_is s at (More a (More b End)) = refl
 is_error_is s at (More a (More b (More c End))) = refl
 is_error_is s at (More a (More b (More c (More d rest)))) = sym (ap is_error_rule (given_four s at a b c d rest))
 
-pub abs_is : (s : Sight) (at : Addr) (args : Exprs) → ask_on s at (Call Fun.Abs args) ≡ sign_rule Sign2.Abs (given_by s at args)
+pub abs_is : (s : Sight) (at : Addr) (args : Exprs) → ask_on s at (Call Fun.Abs args) ≡ abs_rule (given_by s at args)
 abs_is s at End = refl
 abs_is s at (More a End) = ask_abs_all (book_of s) (known_of s) at a
 abs_is s at (More a (More b End)) = refl
 abs_is s at (More a (More b (More c End))) = refl
-abs_is s at (More a (More b (More c (More d rest)))) = sym (ap (sign_rule Sign2.Abs) (given_four s at a b c d rest))
+abs_is s at (More a (More b (More c (More d rest)))) = sym (ap abs_rule (given_four s at a b c d rest))
 
-two_is : (s : Sight) (at : Addr) (op : Op2) (args : Exprs) → ask_two (book_of s) (known_of s) at op args ≡ operator_rule s.texts op (given_by s at args)
+two_is : (s : Sight) (at : Addr) (op : Op2) (args : Exprs) → ask_two (book_of s) (known_of s) at op args ≡ two_rule s.texts op (given_by s at args)
 two_is s at op End = refl
 two_is s at op (More a End) = refl
 two_is s at op (More a (More b End)) = ask_two_all (book_of s) (known_of s) at op a b
 two_is s at op (More a (More b (More c End))) = refl
-two_is s at op (More a (More b (More c (More d rest)))) = sym (ap (operator_rule s.texts op) (given_four s at a b c d rest))
+two_is s at op (More a (More b (More c (More d rest)))) = sym (ap (two_rule s.texts op) (given_four s at a b c d rest))
 
-pub mod_is : (s : Sight) (at : Addr) (args : Exprs) → ask_on s at (Call Fun.Mod args) ≡ operator_rule s.texts Op2.Mod (given_by s at args)
+pub mod_is : (s : Sight) (at : Addr) (args : Exprs) → ask_on s at (Call Fun.Mod args) ≡ two_rule s.texts Op2.Mod (given_by s at args)
 mod_is s at args = two_is s at Op2.Mod args
 
-pub quotient_is : (s : Sight) (at : Addr) (args : Exprs) → ask_on s at (Call Fun.Quotient args) ≡ operator_rule s.texts Op2.Quotient (given_by s at args)
+pub quotient_is : (s : Sight) (at : Addr) (args : Exprs) → ask_on s at (Call Fun.Quotient args) ≡ two_rule s.texts Op2.Quotient (given_by s at args)
 quotient_is s at args = two_is s at Op2.Quotient args
 
 pub index_is : (s : Sight) (at : Addr) (args : Exprs) → ask_on s at (Call Fun.Index args) ≡ index_rule s (given_by s at args)
 index_is s at End = refl
 index_is s at (More a End) = refl
 index_is s at (More a (More b End)) = refl
-index_is s at (More a (More b (More c End))) = ask_index_steps (book_of s) (known_of s) at a b c ∙ ap (λ p. on_with (value_or_end (ask_on s at b)) (λ v. on_with (value_or_end (ask_on s at c)) (λ w. index_steps (look_on s) v w p))) (sym (seen_back (place_of at a)))
+index_is s at (More a (More b (More c End))) = ask_index_steps (book_of s) (known_of s) at a b c
 index_is s at (More a (More b (More c (More d rest)))) = sym (ap (index_rule s) (given_four s at a b c d rest))
 
-match_two : (s : Sight) (at : Addr) (a b : Expr) (rest : Exprs) → ask_on s at (Call Fun.Match (More a (More b rest))) ≡ match_of s (ask_on s at a) (place_seen (seen (place_of at b)))
-match_two s at a b rest = ask_match_steps (book_of s) (known_of s) at a b rest ∙ ap (match_of s (ask_on s at a)) (sym (seen_back (place_of at b)))
+match_two : (s : Sight) (at : Addr) (a b : Expr) (rest : Exprs) → ask_on s at (Call Fun.Match (More a (More b rest))) ≡ match_of s (ask_on s at a) (place_of at b)
+match_two s at a b rest = ask_match_steps (book_of s) (known_of s) at a b rest
 
 pub match_is : (s : Sight) (at : Addr) (args : Exprs) → ask_on s at (Call Fun.Match args) ≡ match_rule s (given_by s at args)
 match_is s at End = refl
@@ -114,8 +109,8 @@ match_is s at (More a (More b End)) = match_two s at a b End
 match_is s at (More a (More b (More c End))) = match_two s at a b (More c End)
 match_is s at (More a (More b (More c (More d rest)))) = match_two s at a b (More c (More d rest)) ∙ sym (ap (match_rule s) (given_four s at a b c d rest))
 
-v_lookup_three : (s : Sight) (at : Addr) (a b c : Expr) (rest : Exprs) → ask_on s at (Call Fun.VLookup (More a (More b (More c rest)))) ≡ lookup_of (v_lookup_steps (look_on s) s.texts) (ask_on s at a) (place_seen (seen (place_of at b))) (ask_on s at c)
-v_lookup_three s at a b c rest = ask_v_lookup_steps (book_of s) (known_of s) at a b c rest ∙ ap (λ p. lookup_of (v_lookup_steps (look_on s) s.texts) (ask_on s at a) p (ask_on s at c)) (sym (seen_back (place_of at b)))
+v_lookup_three : (s : Sight) (at : Addr) (a b c : Expr) (rest : Exprs) → ask_on s at (Call Fun.VLookup (More a (More b (More c rest)))) ≡ lookup_of (v_lookup_steps (look_on s) s.texts) (ask_on s at a) (place_of at b) (ask_on s at c)
+v_lookup_three s at a b c rest = ask_v_lookup_steps (book_of s) (known_of s) at a b c rest
 
 pub v_lookup_is : (s : Sight) (at : Addr) (args : Exprs) → ask_on s at (Call Fun.VLookup args) ≡ lookup_rule (v_lookup_steps (look_on s) s.texts) (given_by s at args)
 v_lookup_is s at End = refl
@@ -124,8 +119,8 @@ v_lookup_is s at (More a (More b End)) = refl
 v_lookup_is s at (More a (More b (More c End))) = v_lookup_three s at a b c End
 v_lookup_is s at (More a (More b (More c (More d rest)))) = v_lookup_three s at a b c (More d rest) ∙ sym (ap (lookup_rule (v_lookup_steps (look_on s) s.texts)) (given_four s at a b c d rest))
 
-h_lookup_three : (s : Sight) (at : Addr) (a b c : Expr) (rest : Exprs) → ask_on s at (Call Fun.HLookup (More a (More b (More c rest)))) ≡ lookup_of (h_lookup_steps (look_on s) s.texts) (ask_on s at a) (place_seen (seen (place_of at b))) (ask_on s at c)
-h_lookup_three s at a b c rest = ask_h_lookup_steps (book_of s) (known_of s) at a b c rest ∙ ap (λ p. lookup_of (h_lookup_steps (look_on s) s.texts) (ask_on s at a) p (ask_on s at c)) (sym (seen_back (place_of at b)))
+h_lookup_three : (s : Sight) (at : Addr) (a b c : Expr) (rest : Exprs) → ask_on s at (Call Fun.HLookup (More a (More b (More c rest)))) ≡ lookup_of (h_lookup_steps (look_on s) s.texts) (ask_on s at a) (place_of at b) (ask_on s at c)
+h_lookup_three s at a b c rest = ask_h_lookup_steps (book_of s) (known_of s) at a b c rest
 
 pub h_lookup_is : (s : Sight) (at : Addr) (args : Exprs) → ask_on s at (Call Fun.HLookup args) ≡ lookup_rule (h_lookup_steps (look_on s) s.texts) (given_by s at args)
 h_lookup_is s at End = refl
@@ -145,8 +140,8 @@ choose_is s at t rest = ask_choose (book_of s) (known_of s) at t rest ∙ go (va
     go (Ok v) = by_number (as_number v)
     go (Err e) = refl
 
-pub fold_is : (s : Sight) (at : Addr) (k : FoldKind) (t : Total) (x : Expr) (rest : Exprs) → ask_fold (book_of s) (known_of s) at k t (More x rest) ≡ on_with (fold_part (look_on s) k t (place_seen (seen (place_of at x))) (ask_on s at x)) (λ u. ask_fold (book_of s) (known_of s) at k u rest)
-fold_is s at k t x rest = ask_fold_more (book_of s) (known_of s) at k t x rest ∙ ap (λ p. on_with (fold_part (look_on s) k t p (ask_on s at x)) (λ u. ask_fold (book_of s) (known_of s) at k u rest)) (sym (seen_back (place_of at x)))
+pub fold_is : (s : Sight) (at : Addr) (k : FoldKind) (t : Total) (x : Expr) (rest : Exprs) → ask_fold (book_of s) (known_of s) at k t (More x rest) ≡ on_with (fold_part (look_on s) k t (place_of at x) (ask_on s at x)) (λ u. ask_fold (book_of s) (known_of s) at k u rest)
+fold_is s at k t x rest = ask_fold_more (book_of s) (known_of s) at k t x rest
 
 -- formulas with parts, over a sight
 
@@ -156,11 +151,12 @@ and_is s at t rest = ask_and_more (book_of s) (known_of s) at t rest
 pub or_is : (s : Sight) (at : Addr) (t : Expr) (rest : Exprs) → ask_on s at (Call Fun.Or (More t rest)) ≡ if_then (ask_on s at t) (Val (Value.Bool true)) (ask_on s at (Call Fun.Or rest))
 or_is s at t rest = ask_or_more (book_of s) (known_of s) at t rest
 
-pub unary_is : (s : Sight) (at : Addr) (g : Sign) (t : Expr) → ask_on s at (Unary g t) ≡ sign_of_one (sign_of g) (ask_on s at t)
-unary_is s at g t = ask_unary_all (book_of s) (known_of s) at g t
+pub unary_is : (s : Sight) (at : Addr) (g : Sign) (t : Expr) → ask_on s at (Unary g t) ≡ sign_of_one g (ask_on s at t)
+unary_is s at g t = ask_unary (book_of s) (known_of s) at g t
 
-pub binary_is : (s : Sight) (at : Addr) (o : Op) (t u : Expr) → ask_on s at (Binary o t u) ≡ operator_of_two s.texts (op_of o) (ask_on s at t) (ask_on s at u)
-binary_is s at o t u = ask_binary_all (book_of s) (known_of s) at o t u
+pub binary_is : (s : Sight) (at : Addr) (o : Op) (t u : Expr) → ask_on s at (Binary o t u) ≡ operator_of_two s.texts o (ask_on s at t) (ask_on s at u)
+binary_is s at o t u = ask_binary (book_of s) (known_of s) at o t u
 
-pub later_is : (s : Sight) (at : Addr) (n : ℕ) (x : Expr) (rest : Exprs) → (n ≡ 0 → ⊥) → ask_value_at (book_of s) (known_of s) at n (More x rest) ≡ ask_value_at (book_of s) (known_of s) at (n - 1) rest
-later_is s at n x rest h = value_at_later (book_of s) (known_of s) at n x rest (omega (arith, h))
+pub later_is : (s : Sight) (at : Addr) (n : ℕ) (x : Expr) (rest : Exprs) → (n ≡ 0 → ⊥) → argument_at n (More x rest) ≡ argument_at (n - 1) rest
+later_is s at zero x rest h = absurd (h refl)
+later_is s at (suc n) x rest h = (let same : n ≡ suc n - 1 = omega arith in ap (λ z. argument_at z rest) same)

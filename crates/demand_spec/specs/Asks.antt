@@ -1,13 +1,14 @@
 -- What the parts of a formula give: something to go on with, or what the whole formula gives.
-use Rattle.std.specs.Prelude.{ℕ, zero, suc, ℤ, pos, negsuc, nat_lt, List, [], ◌∷◌, Bool, true, false, cond, Option, Some, None, Result, Ok, Err}
+use Rattle.std.specs.Prelude.{ℕ, zero, suc, ℤ, pos, negsuc, nat_lt, List, [], ◌∷◌, Bool, true, false, cond, Option, Some, None, option_and_then, Result, Ok, Err}
 use Rattle.cell_values.specs.declared.address.Addr.{Addr}
 use Rattle.cell_values.specs.declared.address.Area.{Area}
 use Rattle.cell_values.specs.declared.values.Code.{Code}
 use Rattle.cell_values.specs.declared.values.Value.{Value}
 use Rattle.cell_values.specs.Areas.{height, width, cell_of, row_of, column_of, walk}
 use Rattle.cell_values.specs.Texts.{Texts}
-use Rattle.formula_trees.specs.Expr.{Expr, Exprs}
-use Rattle.formula_trees.specs.Mentions.{Place, Nowhere, Bad, Cells}
+use Rattle.formula_trees.specs.Expr.{Expr, Exprs, End, More}
+use Rattle.formula_trees.specs.declared.place.Place.{Place}
+use Rattle.formula_trees.specs.declared.place.Place.TheVariants.{Nowhere, Bad, Cells}
 use Rattle.builtin_functions.specs.declared.operators.Op2.{Op2}
 use Rattle.builtin_functions.specs.declared.folds.FoldKind.{FoldKind}
 use Rattle.builtin_functions.specs.Tables.{condition, table}
@@ -16,7 +17,7 @@ use Rattle.builtin_functions.specs.Folds.{Total, taken}
 use Rattle.demand_spec.specs.declared.Asked.{Asked}
 use Rattle.demand_spec.specs.declared.Asked.TheVariants.{Val, Needs}
 use Rattle.demand_spec.specs.Plan.{run}
-use Rattle.demand_spec.specs.Formula.{value_at, fold_plan, two_numbers, arguments, is_found}
+use Rattle.demand_spec.specs.Formula.{fold_plan, two_numbers, arguments, is_found}
 use Rattle.demand_spec.specs.Book.{Book, Known, look, ask}
 
 -- what was found goes on; else the formula has ended
@@ -83,14 +84,20 @@ abbrev pub if_error : Asked → Asked → Asked
 if_error (Val v) other = cond (is_error v) other (Val v)
 if_error (Needs x) other = Needs x
 
--- the value of the argument with a number
-abbrev pub ask_value_at : Book → Known → Addr → ℕ → Exprs → Asked
-ask_value_at b e at n args = run (look b e) (value_at n (arguments b.texts at args))
+-- the argument with a number, counted from 0
+abbrev pub argument_at : ℕ → Exprs → Option Expr
+argument_at n End = None
+argument_at zero (More a rest) = Some a
+argument_at (suc n) (More a rest) = argument_at n rest
 
--- the argument with a number, if it is one
+-- what an argument gives; `#VALUE!` where there is none
+abbrev pub ask_argument : Book → Known → Addr → Option Expr → Asked
+ask_argument b e at (Some t) = ask b e at t
+ask_argument b e at None = Val (Value.Error Code.Value)
+
+-- what the argument with a number gives, if it is one
 abbrev pub ask_chosen : Book → Known → Addr → Option ℕ → Exprs → Asked
-ask_chosen b e at (Some n) args = ask_value_at b e at n args
-ask_chosen b e at None args = Val (Value.Error Code.Value)
+ask_chosen b e at o args = ask_argument b e at (option_and_then (λ n. argument_at n args) o)
 
 -- a fold over cells
 abbrev pub fold_looks : (Addr → Asked) → FoldKind → Total → List Addr → Result Total Asked

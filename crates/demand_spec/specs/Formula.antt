@@ -11,11 +11,13 @@ use Rattle.formula_trees.specs.declared.tree.Op.{Op}
 use Rattle.formula_trees.specs.declared.tree.Sign.{Sign}
 use Rattle.formula_trees.specs.Expr.{Expr, Exprs, Number, Text, Truth, Ref, Range, RefError, Unary, Binary, Call, End, More}
 use Rattle.formula_trees.specs.References.{resolve}
-use Rattle.formula_trees.specs.Mentions.{Place, Nowhere, Bad, Cells, place_of}
+use Rattle.formula_trees.specs.declared.place.Place.{Place}
+use Rattle.formula_trees.specs.declared.place.Place.TheVariants.{Nowhere, Bad, Cells}
+use Rattle.formula_trees.specs.Mentions.{place_of}
 use Rattle.builtin_functions.specs.declared.operators.Op2.{Op2}
 use Rattle.builtin_functions.specs.declared.operators.Sign2.{Sign2}
 use Rattle.builtin_functions.specs.declared.folds.FoldKind.{FoldKind}
-use Rattle.builtin_functions.specs.Tables.{same, table, sign_table, condition}
+use Rattle.builtin_functions.specs.Tables.{same, table, sign_table, unary_value, binary_value, condition}
 use Rattle.cell_values.specs.Values.{is_error, as_number}
 use Rattle.builtin_functions.specs.Folds.{Total, so_far, taken}
 use Rattle.demand_spec.specs.Plan.{Plan, Give, Demand, and_then}
@@ -224,6 +226,13 @@ abbrev pub sign_of : Sign → Sign2
 sign_of Sign.Minus = Sign2.Minus
 sign_of Sign.Plus = Sign2.Plus
 
+-- what a two-sided operator gives at any two values, and a sign at one; an error is the answer
+abbrev pub operator_value : Texts → Op → Value → Value → Value
+operator_value ts o a b = binary_value ts (op_of o) a b
+
+abbrev pub sign_value : Sign → Value → Value
+sign_value s a = unary_value (sign_of s) a
+
 -- a literal is its value; a reference demands its cell; a range that stands where none may is `#VALUE!`
 abbrev mutual
   pub plan : Texts → Addr → Expr → Plan
@@ -233,8 +242,8 @@ abbrev mutual
   plan ts at (Ref r) = demand_of (resolve at r)
   plan ts at (Range r s) = fails Code.Value
   plan ts at RefError = fails Code.Ref
-  plan ts at (Unary s a) = value_of (plan ts at a) (λ x. Give (sign_table (sign_of s) x))
-  plan ts at (Binary o a b) = value_of (plan ts at a) (λ x. value_of (plan ts at b) (λ y. Give (table ts (op_of o) x y)))
+  plan ts at (Unary s a) = value_of (plan ts at a) (λ x. Give (sign_value s x))
+  plan ts at (Binary o a b) = value_of (plan ts at a) (λ x. value_of (plan ts at b) (λ y. Give (operator_value ts o x y)))
   plan ts at (Call f args) = call_plan ts f (arguments ts at args)
 
   pub arguments : Texts → Addr → Exprs → List Argument

@@ -4,8 +4,11 @@ use Rattle.cell_values.specs.declared.address.Addr.{Addr}
 use Rattle.cell_values.specs.declared.values.Code.{Code}
 use Rattle.cell_values.specs.declared.values.Value.{Value}
 use Rattle.cell_values.specs.Texts.{Texts}
+use Rattle.formula_trees.specs.declared.tree.Op.{Op}
+use Rattle.formula_trees.specs.declared.tree.Sign.{Sign}
 use Rattle.formula_trees.specs.Expr.{Expr, Exprs, End, More}
-use Rattle.formula_trees.specs.Mentions.{Place, place_of}
+use Rattle.formula_trees.specs.declared.place.Place.{Place}
+use Rattle.formula_trees.specs.Mentions.{place_of, HasArea}
 use Rattle.builtin_functions.specs.declared.operators.Op2.{Op2}
 use Rattle.builtin_functions.specs.declared.operators.Sign2.{Sign2}
 use Rattle.builtin_functions.specs.Tables.{unary_value, binary_value}
@@ -14,9 +17,8 @@ use Rattle.demand_spec.specs.declared.Asked.{Asked}
 use Rattle.demand_spec.specs.declared.Asked.TheVariants.{Val, Needs}
 use Rattle.demand_spec.specs.declared.given.Argument.{Argument}
 use Rattle.demand_spec.specs.declared.given.Given.{Given}
-use Rattle.demand_spec.specs.Places.{seen, place_seen, HasArea}
 use Rattle.demand_spec.specs.Asks.{on_with, and_on, any_value, value_or_end, condition_or_end, number_or_end, if_error, index_steps, match_steps}
-use Rattle.demand_spec.specs.Formula.{from_one}
+use Rattle.demand_spec.specs.Formula.{from_one, operator_value, sign_value}
 use Rattle.demand_spec.specs.Stage.{Sight, look_on, ask_on}
 
 -- a value that is given is one of these texts'
@@ -26,7 +28,7 @@ IsAnswerOf ts (Needs x) = Unit {0}
 
 -- an argument: what it gives, and where it stands
 abbrev pub argument_of : Sight → Addr → Expr → Argument
-argument_of s at t = record { value = ask_on s at t; place = seen (place_of at t) }
+argument_of s at t = record { value = ask_on s at t; place = place_of at t }
 
 -- an argument before the others
 abbrev pub given_before : Argument → Given → Given
@@ -58,11 +60,11 @@ not_of a = on_with (condition_or_end a) (λ b. Val (Value.Bool (not b)))
 abbrev pub is_error_of : Asked → Asked
 is_error_of a = on_with (any_value a) (λ v. Val (Value.Bool (is_error v)))
 
-abbrev pub sign_of_one : Sign2 → Asked → Asked
-sign_of_one sign a = on_with (value_or_end a) (λ x. Val (unary_value sign x))
+abbrev pub sign_of_one : Sign → Asked → Asked
+sign_of_one sign a = on_with (value_or_end a) (λ x. Val (sign_value sign x))
 
-abbrev pub operator_of_two : Texts → Op2 → Asked → Asked → Asked
-operator_of_two ts op a b = on_with (value_or_end a) (λ x. on_with (value_or_end b) (λ y. Val (binary_value ts op x y)))
+abbrev pub operator_of_two : Texts → Op → Asked → Asked → Asked
+operator_of_two ts op a b = on_with (value_or_end a) (λ x. on_with (value_or_end b) (λ y. Val (operator_value ts op x y)))
 
 -- CHOOSE's index, from 1 on and counted from 0
 abbrev pub index_or_end : Asked → Result (Option ℕ) Asked
@@ -87,25 +89,27 @@ abbrev pub is_error_rule : Given → Asked
 is_error_rule (Given.One a) = is_error_of a.value
 is_error_rule _ = Val (Value.Error Code.Value)
 
-abbrev pub sign_rule : Sign2 → Given → Asked
-sign_rule sign (Given.One a) = sign_of_one sign a.value
-sign_rule sign _ = Val (Value.Error Code.Value)
+-- ABS
+abbrev pub abs_rule : Given → Asked
+abs_rule (Given.One a) = on_with (value_or_end a.value) (λ x. Val (unary_value Sign2.Abs x))
+abs_rule _ = Val (Value.Error Code.Value)
 
-abbrev pub operator_rule : Texts → Op2 → Given → Asked
-operator_rule ts op (Given.Two a b) = operator_of_two ts op a.value b.value
-operator_rule ts op _ = Val (Value.Error Code.Value)
+-- MOD and QUOTIENT
+abbrev pub two_rule : Texts → Op2 → Given → Asked
+two_rule ts op (Given.Two a b) = on_with (value_or_end a.value) (λ x. on_with (value_or_end b.value) (λ y. Val (binary_value ts op x y)))
+two_rule ts op _ = Val (Value.Error Code.Value)
 
 abbrev pub index_rule : Sight → Given → Asked
-index_rule s (Given.Three range row col) = on_with (value_or_end row.value) (λ v. on_with (value_or_end col.value) (λ w. index_steps (look_on s) v w (place_seen range.place)))
+index_rule s (Given.Three range row col) = on_with (value_or_end row.value) (λ v. on_with (value_or_end col.value) (λ w. index_steps (look_on s) v w range.place))
 index_rule s _ = Val (Value.Error Code.Value)
 
 abbrev pub match_of : Sight → Asked → Place → Asked
 match_of s key range = on_with (value_or_end key) (λ k. match_steps (look_on s) s.texts k range)
 
 abbrev pub match_rule : Sight → Given → Asked
-match_rule s (Given.Two key range) = match_of s key.value (place_seen range.place)
-match_rule s (Given.Three key range x) = match_of s key.value (place_seen range.place)
-match_rule s (Given.Four key range x) = match_of s key.value (place_seen range.place)
+match_rule s (Given.Two key range) = match_of s key.value range.place
+match_rule s (Given.Three key range x) = match_of s key.value range.place
+match_rule s (Given.Four key range x) = match_of s key.value range.place
 match_rule s _ = Val (Value.Error Code.Value)
 
 -- the steps of a lookup behind a key and a place argument
@@ -113,8 +117,8 @@ abbrev pub lookup_of : (Value → Value → Place → Asked) → Asked → Place
 lookup_of steps key range place = on_with (value_or_end key) (λ k. on_with (value_or_end place) (λ v. steps k v range))
 
 abbrev pub lookup_rule : (Value → Value → Place → Asked) → Given → Asked
-lookup_rule steps (Given.Three key range place) = lookup_of steps key.value (place_seen range.place) place.value
-lookup_rule steps (Given.Four key range place) = lookup_of steps key.value (place_seen range.place) place.value
+lookup_rule steps (Given.Three key range place) = lookup_of steps key.value range.place place.value
+lookup_rule steps (Given.Four key range place) = lookup_of steps key.value range.place place.value
 lookup_rule steps _ = Val (Value.Error Code.Value)
 
 -- where an argument has cells, they are a rectangle of a sheet

@@ -7,6 +7,5 @@ pub mod Listed
 pub mod Stage
 pub mod Asks
 pub mod Recursion
-pub mod Places
 pub mod Rounds
 pub mod Given

@@ -19,7 +19,7 @@ use Rattle.builtin_functions.specs.Tables.{table, sign_table}
 use Rattle.cell_values.specs.Values.{as_number, is_error}
 use Rattle.builtin_functions.specs.Folds.{Total, end_value}
 use Rattle.demand_spec.specs.declared.Asked.TheVariants.{Val}
-use Rattle.demand_spec.specs.Formula.{from_one, op_of, sign_of}
+use Rattle.demand_spec.specs.Formula.{from_one, operator_value, sign_value}
 use Rattle.demand_spec.specs.Book.{Book, Known, look, ask}
 use Rattle.demand_spec.specs.Asks.{on_with, any_value, value_or_end, condition_or_end, number_or_end, cells_or_end, up_to_or_end, found_or_end, if_error, ask_chosen, fold_part, ask_fold, search_looks}
 
@@ -39,11 +39,11 @@ ReferenceGives = (b : Book) (e : Known) (at : Addr) (r : Reference) →
 
 -- a sign
 abbrev pub SignGives : Type 0
-SignGives = (b : Book) (e : Known) (at : Addr) (s : Sign) (t : Expr) → ask b e at (Unary s t) ≡ on_with (value_or_end (ask b e at t)) (λ x. Val (sign_table (sign_of s) x))
+SignGives = (b : Book) (e : Known) (at : Addr) (s : Sign) (t : Expr) → ask b e at (Unary s t) ≡ on_with (value_or_end (ask b e at t)) (λ x. Val (sign_value s x))
 
 -- a two-sided operator
 abbrev pub OperatorGives : Type 0
-OperatorGives = (b : Book) (e : Known) (at : Addr) (o : Op) (t u : Expr) → ask b e at (Binary o t u) ≡ on_with (value_or_end (ask b e at t)) (λ x. on_with (value_or_end (ask b e at u)) (λ y. Val (table b.texts (op_of o) x y)))
+OperatorGives = (b : Book) (e : Known) (at : Addr) (o : Op) (t u : Expr) → ask b e at (Binary o t u) ≡ on_with (value_or_end (ask b e at t)) (λ x. on_with (value_or_end (ask b e at u)) (λ y. Val (operator_value b.texts o x y)))
 
 -- MOD
 abbrev pub ModGives : Type 0
@@ -90,7 +90,7 @@ IfErrorGives = (b : Book) (e : Known) (at : Addr) (t u : Expr) → ask b e at (C
 abbrev pub IsErrorGives : Type 0
 IsErrorGives = (b : Book) (e : Known) (at : Addr) (t : Expr) → ask b e at (Call Fun.IsError (More t End)) ≡ on_with (any_value (ask b e at t)) (λ v. Val (Value.Bool (is_error v)))
 
--- CHOOSE
+-- CHOOSE: the argument with the number, and no other
 abbrev pub ChooseGives : Type 0
 ChooseGives = (b : Book) (e : Known) (at : Addr) (t : Expr) (rest : Exprs) → ask b e at (Call Fun.Choose (More t rest)) ≡ on_with (value_or_end (ask b e at t)) (λ v. on_with (number_or_end (as_number v)) (λ z. ask_chosen b e at (from_one z) rest))
 

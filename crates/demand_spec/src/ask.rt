@@ -2,50 +2,20 @@
 //! whole gives from what they give.
 ghost use Rattle.std.specs.Prelude.{◌≡◌};
 ghost use Rattle.builtin_functions.specs.Folds.{end_value};
-ghost use Rattle.demand_spec.specs.Asks.{ask_value_at, ask_fold};
-ghost use Rattle.demand_spec.specs.Formula.{op_of, sign_of};
+ghost use Rattle.demand_spec.specs.Asks.{argument_at, ask_argument, ask_fold};
 ghost use Rattle.demand_spec.specs.Given.{argument_of, given_by, AreGivenOf, HaveAreas, IsAnswerOf};
 ghost use Rattle.demand_spec.specs.Listed.{IsFormulaOf, AreArgumentsOf};
-ghost use Rattle.demand_spec.specs.Places.{HasArea};
 ghost use Rattle.formula_trees.specs.Expr.{expr_of, exprs_of, Call};
+ghost use Rattle.formula_trees.specs.Mentions.{HasArea};
 
 use crate::Asked;
-use crate::calls::{call_if, call_if_error, call_is_error, call_not, call_operator, call_sign};
+use crate::calls::{call_abs, call_if, call_if_error, call_is_error, call_not, call_two};
 use crate::ends::fails;
 use crate::given::{Argument, Given, if_then, index_of, operator_of_two, sign_of_one};
-use crate::places::place_at;
 use crate::stage::Stage;
-use builtin_functions::{FoldKind, Op2, Sign2};
+use builtin_functions::{FoldKind, Op2};
 use cell_values::{Addr, Code, Int, Value};
-use formula_trees::{Args, Fun, Op, Sign, Tree, resolve};
-
-/// The operator of a sign.
-fn sign_of(sign: Sign) -> Sign2
-    ensures { result ≡ sign_of sign }
-{
-    match sign {
-        Sign::Minus => Sign2::Minus,
-        Sign::Plus => Sign2::Plus,
-    }
-}
-
-/// The two-sided operator in the table of operators.
-fn operator_of(op: Op) -> Op2
-    ensures { result ≡ op_of op }
-{
-    match op {
-        Op::Add => Op2::Add,
-        Op::Sub => Op2::Sub,
-        Op::Mul => Op2::Mul,
-        Op::Div => Op2::Div,
-        Op::Eq => Op2::Eq,
-        Op::Ne => Op2::Ne,
-        Op::Lt => Op2::Lt,
-        Op::Le => Op2::Le,
-        Op::Gt => Op2::Gt,
-        Op::Ge => Op2::Ge,
-    }
-}
+use formula_trees::{Args, Fun, Tree, place_of, resolve};
 
 /// What a fold gives at its end: 0 of no number.
 fn end_of(total: Option<Int>) -> Value
@@ -89,9 +59,9 @@ impl<'a> Stage<'a> {
             },
             Tree::Range(_, _) => fails(Code::Value),
             Tree::RefError => fails(Code::Ref),
-            Tree::Unary(sign, a) => sign_of_one(sign_of(*sign), self.ask(a, at)),
+            Tree::Unary(sign, a) => sign_of_one(*sign, self.ask(a, at)),
             Tree::Binary(op, a, b) => operator_of_two(
-                operator_of(*op),
+                *op,
                 self.ask(a, at),
                 self.ask(b, at),
                 self.texts(),
@@ -119,9 +89,9 @@ impl<'a> Stage<'a> {
             Fun::Min => self.fold(FoldKind::Min, None, args, at),
             Fun::Max => self.fold(FoldKind::Max, None, args, at),
             Fun::Count => self.fold(FoldKind::Count, None, args, at),
-            Fun::Abs => call_sign(Sign2::Abs, self.given(args, at)),
-            Fun::Mod => call_operator(Op2::Mod, self.given(args, at), self.texts()),
-            Fun::Quotient => call_operator(Op2::Quotient, self.given(args, at), self.texts()),
+            Fun::Abs => call_abs(self.given(args, at)),
+            Fun::Mod => call_two(Op2::Mod, self.given(args, at), self.texts()),
+            Fun::Quotient => call_two(Op2::Quotient, self.given(args, at), self.texts()),
             Fun::Index => self.call_index(self.given(args, at)),
             Fun::Match => self.call_match(self.given(args, at)),
             Fun::VLookup => self.call_v_lookup(self.given(args, at)),
@@ -139,7 +109,7 @@ impl<'a> Stage<'a> {
     {
         Argument {
             value: self.ask(tree, at),
-            place: place_at(tree, at),
+            place: place_of(tree, at),
         }
     }
 
@@ -222,7 +192,7 @@ impl<'a> Stage<'a> {
     #[tactic(auto, using(crate::proofs::Rules::later_is))]
     fn chosen(&self, n: u128, args: &Args, at: Addr) -> Asked
         requires { AreArgumentsOf self.now.texts (exprs_of args.now) }
-        ensures { result ≡ ask_value_at (book_of self.now) (known_of self.now) at n (exprs_of args.now) }
+        ensures { result ≡ ask_argument (book_of self.now) (known_of self.now) at (argument_at n (exprs_of args.now)) }
     {
         match args {
             Args::End => fails(Code::Value),

@@ -1,15 +1,13 @@
 //! What calls give from what their arguments give; with a wrong number of arguments `#VALUE!`.
 ghost use Rattle.std.specs.Prelude.{◌≡◌};
 ghost use Rattle.demand_spec.specs.Asks.{v_lookup_steps, h_lookup_steps};
-ghost use Rattle.demand_spec.specs.Given.{AreGivenOf, HaveAreas, if_rule, not_rule, if_error_rule, is_error_rule, sign_rule, operator_rule, index_rule, match_rule, lookup_rule};
+ghost use Rattle.demand_spec.specs.Given.{AreGivenOf, HaveAreas, if_rule, not_rule, if_error_rule, is_error_rule, abs_rule, two_rule, index_rule, match_rule, lookup_rule};
 
 use crate::Asked;
-use crate::ends::{answer, fails};
-use crate::given::{
-    Given, if_error_of, if_then, is_error_of, not_of, operator_of_two, sign_of_one,
-};
+use crate::ends::{answer, fails, no_error};
+use crate::given::{Given, if_error_of, if_then, is_error_of, not_of};
 use crate::stage::Stage;
-use builtin_functions::{Op2, Sign2};
+use builtin_functions::{Op2, Sign2, binary, unary};
 use cell_values::{Code, Texts, Value};
 
 /// IF; FALSE stands for a missing third argument.
@@ -65,11 +63,14 @@ pub(crate) fn call_is_error(given: Given) -> Asked
 }
 
 /// ABS.
-pub(crate) fn call_sign(sign: Sign2, given: Given) -> Asked
-    ensures { result ≡ sign_rule sign given }
+pub(crate) fn call_abs(given: Given) -> Asked
+    ensures { result ≡ abs_rule given }
 {
     match given {
-        Given::One(a) => sign_of_one(sign, a.value),
+        Given::One(a) => match no_error(a.value) {
+            Ok(x) => Asked::Val(unary(Sign2::Abs, x)),
+            Err(ended) => ended,
+        },
         Given::Zero => fails(Code::Value),
         Given::Two(_, _) => fails(Code::Value),
         Given::Three(_, _, _) => fails(Code::Value),
@@ -78,12 +79,17 @@ pub(crate) fn call_sign(sign: Sign2, given: Given) -> Asked
 }
 
 /// MOD and QUOTIENT.
-pub(crate) fn call_operator(op: Op2, given: Given, texts: &Texts) -> Asked
+#[tactic(auto, using(crate::proofs::Rules::value_is_of))]
+pub(crate) fn call_two(op: Op2, given: Given, texts: &Texts) -> Asked
     requires { AreGivenOf texts.now given }
-    ensures { result ≡ operator_rule texts.now op given }
+    ensures { result ≡ two_rule texts.now op given }
 {
     match given {
-        Given::Two(a, b) => operator_of_two(op, a.value, b.value, texts),
+        Given::Two(a, b) => match (no_error(a.value), no_error(b.value)) {
+            (Ok(x), Ok(y)) => Asked::Val(binary(op, x, y, texts)),
+            (Ok(_), Err(ended)) => ended,
+            (Err(ended), _) => ended,
+        },
         Given::Zero => fails(Code::Value),
         Given::One(_) => fails(Code::Value),
         Given::Three(_, _, _) => fails(Code::Value),

@@ -4,15 +4,15 @@ ghost use Rattle.cell_values.specs.Values.{IsValueOf, is_error};
 ghost use Rattle.cell_values.specs.Areas.{column_of, height, width, row_of, walk, IsArea};
 ghost use Rattle.demand_spec.specs.Asks.{fold_looks, fold_part, search_looks};
 ghost use Rattle.demand_spec.specs.Formula.{is_found};
-ghost use Rattle.demand_spec.specs.Places.{place_seen, HasArea};
+ghost use Rattle.formula_trees.specs.Mentions.{HasArea};
 
 use crate::Asked;
 use crate::ends::{any_value, fails, take};
-use crate::places::{Place, cell, height, width};
 use crate::stage::Stage;
 use builtin_functions::FoldKind;
 use builtin_functions::operators::same;
 use cell_values::{Area, Code, Int, Texts, Value};
+use formula_trees::Place;
 
 /// Whether a cell's value is the one that is searched. An error or Blank is passed over.
 fn is_found(key: Value, value: Value, texts: &Texts) -> bool
@@ -44,8 +44,8 @@ impl<'a> Stage<'a> {
         ensures { result ≡ fold_looks (look_on self.now) kind total (row_of area i) }
     {
         let mut total = total;
-        for j in 0..width(area) {
-            let value = self.demand(cell(area, i, j))?;
+        for j in 0..area.columns() {
+            let value = self.demand(area.cell(i, j))?;
             total = take(kind, total, true, value)?;
         }
         Ok(total)
@@ -63,7 +63,7 @@ impl<'a> Stage<'a> {
         ensures { result ≡ fold_looks (look_on self.now) kind total (walk area) }
     {
         let mut total = total;
-        for i in 0..height(area) {
+        for i in 0..area.rows() {
             total = self.fold_row(kind, total, area, i)?;
         }
         Ok(total)
@@ -78,7 +78,7 @@ impl<'a> Stage<'a> {
         value: Asked,
     ) -> Result<Option<Int>, Asked>
         requires { HasArea place }
-        ensures { result ≡ fold_part (look_on self.now) kind total (place_seen place) value }
+        ensures { result ≡ fold_part (look_on self.now) kind total place value }
     {
         match place {
             Place::Cells(area) => self.fold_area(kind, total, area),
@@ -105,8 +105,8 @@ impl<'a> Stage<'a> {
         ensures same { result ≡ search_looks (look_on self.now) self.now.texts key first (row_of area i) }
         ensures within { IfOk result (λ o. IfSome o (λ n. (first ≤ n) × (n < first + width area))) }
     {
-        for j in 0..width(area) {
-            let value = self.demand(cell(area, i, j))?;
+        for j in 0..area.columns() {
+            let value = self.demand(area.cell(i, j))?;
             if is_found(key, value, self.texts()) {
                 return Ok(Some(first + j));
             }
@@ -123,11 +123,11 @@ impl<'a> Stage<'a> {
         ensures same { result ≡ search_looks (look_on self.now) self.now.texts key 0 (walk area) }
     {
         let mut passed = 0;
-        for i in 0..height(area) {
+        for i in 0..area.rows() {
             if let Some(n) = self.search_row(key, area, i, passed)? {
                 return Ok(Some(n));
             }
-            passed += width(area);
+            passed += area.columns();
         }
         Ok(None)
     }
@@ -141,8 +141,8 @@ impl<'a> Stage<'a> {
         ensures same { result ≡ search_looks (look_on self.now) self.now.texts key 0 (column_of area 0) }
         ensures within { IfOk result (λ o. IfSome o (λ n. n < height area)) }
     {
-        for i in 0..height(area) {
-            let value = self.demand(cell(area, i, 0))?;
+        for i in 0..area.rows() {
+            let value = self.demand(area.cell(i, 0))?;
             if is_found(key, value, self.texts()) {
                 return Ok(Some(i));
             }

@@ -1,8 +1,10 @@
 //! What ends a formula.
-ghost use Rattle.std.specs.Prelude.{◌≡◌, IfOk, IsFalse};
+ghost use Rattle.std.specs.Prelude.{◌≡◌, ◌<◌, IfOk, IsFalse};
+ghost use Rattle.cell_values.specs.Areas.{IsArea};
 ghost use Rattle.cell_values.specs.declared.values.Value.TheVariants.{Error};
+ghost use Rattle.formula_trees.specs.Mentions.{HasArea};
 ghost use Rattle.demand_spec.specs.declared.Asked.TheVariants.{Val};
-ghost use Rattle.demand_spec.specs.Asks.{any_value, value_or_end, number_or_end, found_or_end, or_fails, answer_of};
+ghost use Rattle.demand_spec.specs.Asks.{any_value, value_or_end, number_or_end, cells_or_end, up_to_or_end, found_or_end, or_fails, answer_of};
 ghost use Rattle.builtin_functions.specs.Tables.{condition as condition_of};
 ghost use Rattle.cell_values.specs.Values.{as_number, is_error};
 ghost use Rattle.builtin_functions.specs.Folds.{taken};
@@ -10,7 +12,8 @@ ghost use Rattle.builtin_functions.specs.Folds.{taken};
 use crate::Asked;
 use builtin_functions::operators::condition;
 use builtin_functions::{Fold, FoldKind, Go};
-use cell_values::{Code, Int, Value};
+use cell_values::{Area, Code, Int, Value};
+use formula_trees::Place;
 
 /// The formula gives an error.
 pub(crate) fn fails(code: Code) -> Asked
@@ -94,5 +97,29 @@ pub(crate) fn take(
     match fold.take(value, in_range) {
         Go::More => Ok(fold.total),
         Go::Stop(code) => Err(fails(code)),
+    }
+}
+
+/// The cells of an argument, `#REF!` where it names none.
+pub(crate) fn cells(place: Place) -> Result<Area, Asked>
+    requires { HasArea place }
+    ensures same { result ≡ cells_or_end place }
+    ensures within { IfOk result IsArea }
+{
+    match place {
+        Place::Cells(area) => Ok(area),
+        Place::Nowhere | Place::Bad => Err(fails(Code::Ref)),
+    }
+}
+
+/// A number from 1 to `most`, counted from 0; `#REF!` for another.
+pub(crate) fn up_to_most(most: u32, n: Int) -> Result<u32, Asked>
+    ensures same { result ≡ up_to_or_end most n }
+    ensures within { IfOk result (λ k. k < most) }
+{
+    if n < 1 || Int::from(most) < n {
+        Err(fails(Code::Ref))
+    } else {
+        Ok((n - 1) as u32)
     }
 }

@@ -9,10 +9,9 @@ ghost use Rattle.demand_spec.specs.Given.{IsAnswerOf, index_or_end, if_then, not
 
 use crate::Asked;
 use crate::ends::{any_value, no_error, number, truth};
-use crate::places::Place;
-use builtin_functions::operators::{binary, unary};
-use builtin_functions::{Op2, Sign2};
+use crate::operators::{operator_value, sign_value};
 use cell_values::{Int, Texts, Value};
+use formula_trees::{Op, Place, Sign};
 
 /// An argument: what it gives as an expression, and where it stands in the sheet.
 #[derive(Clone, Copy)]
@@ -74,25 +73,25 @@ pub(crate) fn is_error_of(a: Asked) -> Asked
     }
 }
 
-/// A sign, or ABS.
-pub(crate) fn sign_of_one(sign: Sign2, a: Asked) -> Asked
+/// A sign.
+pub(crate) fn sign_of_one(sign: Sign, a: Asked) -> Asked
     ensures { result ≡ sign_of_one sign a }
 {
     match no_error(a) {
-        Ok(x) => Asked::Val(unary(sign, x)),
+        Ok(x) => Asked::Val(sign_value(sign, x)),
         Err(ended) => ended,
     }
 }
 
-/// A two-sided operator, MOD or QUOTIENT: the left operand, and then the right one.
+/// A two-sided operator: the left operand, and then the right one.
 #[tactic(auto, using(crate::proofs::Rules::value_is_of))]
-pub(crate) fn operator_of_two(op: Op2, a: Asked, b: Asked, texts: &Texts) -> Asked
+pub(crate) fn operator_of_two(op: Op, a: Asked, b: Asked, texts: &Texts) -> Asked
     requires left { IsAnswerOf texts.now a }
     requires right { IsAnswerOf texts.now b }
     ensures { result ≡ operator_of_two texts.now op a b }
 {
     match (no_error(a), no_error(b)) {
-        (Ok(x), Ok(y)) => Asked::Val(binary(op, x, y, texts)),
+        (Ok(x), Ok(y)) => Asked::Val(operator_value(op, x, y, texts)),
         (Ok(_), Err(ended)) => ended,
         (Err(ended), _) => ended,
     }

@@ -10,7 +10,7 @@ mod calls;
 mod cells;
 mod ends;
 mod given;
-mod places;
+pub mod operators;
 pub mod slow;
 mod stage;
 mod steps;
@@ -22,6 +22,7 @@ mod whole;
 pub use book::PlainBook;
 use cell_values::{Addr, Int, TextId, Value};
 use formula_trees::Tree;
+pub use operators::{operator_value, sign_value};
 pub use slow::slow_shown;
 pub use view::{BookView, Results};
 

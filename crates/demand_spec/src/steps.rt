@@ -3,13 +3,13 @@ ghost use Rattle.std.specs.Prelude.{◌≡◌, IsFalse};
 ghost use Rattle.cell_values.specs.Values.{IsValueOf, is_error};
 ghost use Rattle.demand_spec.specs.Asks.{answer_of, on_with, value_or_end, index_steps, match_steps, v_lookup_steps, h_lookup_steps};
 ghost use Rattle.demand_spec.specs.Given.{IsAnswerOf, lookup_of, match_of};
-ghost use Rattle.demand_spec.specs.Places.{place_seen, HasArea};
+ghost use Rattle.formula_trees.specs.Mentions.{HasArea};
 
 use crate::Asked;
-use crate::ends::{found, no_error, number};
-use crate::places::{Place, cell, cells, height, up_to_most, width};
+use crate::ends::{cells, found, no_error, number, up_to_most};
 use crate::stage::Stage;
 use cell_values::{Int, Value};
+use formula_trees::Place;
 
 impl<'a> Stage<'a> {
     ghost use Rattle.demand_spec.specs.Stage.{look_on};
@@ -18,14 +18,14 @@ impl<'a> Stage<'a> {
     #[tactic(auto, using(crate::proofs::Asks::answer_any))]
     fn index_in(&self, range: Place, row: Value, col: Value) -> Result<Value, Asked>
         requires { HasArea range }
-        ensures { answer_of result ≡ index_steps (look_on self.now) row col (place_seen range) }
+        ensures { answer_of result ≡ index_steps (look_on self.now) row col range }
     {
         let row = number(row)?;
         let col = number(col)?;
         let area = cells(range)?;
-        let i = up_to_most(height(area), row)?;
-        let j = up_to_most(width(area), col)?;
-        self.demand(cell(area, i, j))
+        let i = up_to_most(area.rows(), row)?;
+        let j = up_to_most(area.columns(), col)?;
+        self.demand(area.cell(i, j))
     }
 
     /// The number of the first cell of a range that has the key, from 1.
@@ -33,7 +33,7 @@ impl<'a> Stage<'a> {
         requires range { HasArea range }
         requires key { IsValueOf self.now.texts key }
         requires no_error { IsFalse (is_error key) }
-        ensures { answer_of result ≡ match_steps (look_on self.now) self.now.texts key (place_seen range) }
+        ensures { answer_of result ≡ match_steps (look_on self.now) self.now.texts key range }
     {
         let area = cells(range)?;
         let n = found(self.search_area(key, area)?)?;
@@ -46,13 +46,13 @@ impl<'a> Stage<'a> {
         requires range { HasArea range }
         requires key { IsValueOf self.now.texts key }
         requires no_error { IsFalse (is_error key) }
-        ensures { answer_of result ≡ v_lookup_steps (look_on self.now) self.now.texts key col (place_seen range) }
+        ensures { answer_of result ≡ v_lookup_steps (look_on self.now) self.now.texts key col range }
     {
         let col = number(col)?;
         let area = cells(range)?;
-        let j = up_to_most(width(area), col)?;
+        let j = up_to_most(area.columns(), col)?;
         let i = found(self.search_column(key, area)?)?;
-        self.demand(cell(area, i, j))
+        self.demand(area.cell(i, j))
     }
 
     /// The value in a row of a range, in the column whose first cell has the key.
@@ -61,19 +61,19 @@ impl<'a> Stage<'a> {
         requires range { HasArea range }
         requires key { IsValueOf self.now.texts key }
         requires no_error { IsFalse (is_error key) }
-        ensures { answer_of result ≡ h_lookup_steps (look_on self.now) self.now.texts key row (place_seen range) }
+        ensures { answer_of result ≡ h_lookup_steps (look_on self.now) self.now.texts key row range }
     {
         let row = number(row)?;
         let area = cells(range)?;
-        let i = up_to_most(height(area), row)?;
+        let i = up_to_most(area.rows(), row)?;
         let j = found(self.search_row(key, area, 0, 0)?)?;
-        self.demand(cell(area, i, j))
+        self.demand(area.cell(i, j))
     }
 
     /// INDEX: the row, the column, and then the cell that stands there in the range.
     pub(crate) fn index(&self, range: Place, row: Asked, col: Asked) -> Result<Value, Asked>
         requires { HasArea range }
-        ensures { answer_of result ≡ on_with (value_or_end row) (λ v. on_with (value_or_end col) (λ w. index_steps (look_on self.now) v w (place_seen range))) }
+        ensures { answer_of result ≡ on_with (value_or_end row) (λ v. on_with (value_or_end col) (λ w. index_steps (look_on self.now) v w range)) }
     {
         let row = no_error(row)?;
         let col = no_error(col)?;
@@ -85,7 +85,7 @@ impl<'a> Stage<'a> {
     pub(crate) fn position(&self, key: Asked, range: Place) -> Result<Value, Asked>
         requires key { IsAnswerOf self.now.texts key }
         requires range { HasArea range }
-        ensures { answer_of result ≡ match_of self.now key (place_seen range) }
+        ensures { answer_of result ≡ match_of self.now key range }
     {
         let key = no_error(key)?;
         self.find(key, range)
@@ -96,7 +96,7 @@ impl<'a> Stage<'a> {
     pub(crate) fn v_lookup(&self, key: Asked, range: Place, col: Asked) -> Result<Value, Asked>
         requires key { IsAnswerOf self.now.texts key }
         requires range { HasArea range }
-        ensures { answer_of result ≡ lookup_of (v_lookup_steps (look_on self.now) self.now.texts) key (place_seen range) col }
+        ensures { answer_of result ≡ lookup_of (v_lookup_steps (look_on self.now) self.now.texts) key range col }
     {
         let key = no_error(key)?;
         let col = no_error(col)?;
@@ -108,7 +108,7 @@ impl<'a> Stage<'a> {
     pub(crate) fn h_lookup(&self, key: Asked, range: Place, row: Asked) -> Result<Value, Asked>
         requires key { IsAnswerOf self.now.texts key }
         requires range { HasArea range }
-        ensures { answer_of result ≡ lookup_of (h_lookup_steps (look_on self.now) self.now.texts) key (place_seen range) row }
+        ensures { answer_of result ≡ lookup_of (h_lookup_steps (look_on self.now) self.now.texts) key range row }
     {
         let key = no_error(key)?;
         let row = no_error(row)?;
