@@ -14,8 +14,8 @@ ghost use Rattle.formula_eval.specs.Machine.{Fits, Holds, IsMeant, WorkFits, Sta
 ghost use Rattle.formula_eval.specs.Evaluations.{found_as, MeansValue, Turns, Comes, Answered, Stands, HasOpen, demanded, rest_of};
 
 use crate::calls::{start_call, wait_for};
-use crate::frames::Frames;
 use crate::continuations::call_on;
+use crate::frames::Frames;
 use crate::work::{Frame, Step, Work};
 use cell_values::{Addr, Code, Texts, Value};
 use demand_spec::{Asked, operator_value, sign_value};

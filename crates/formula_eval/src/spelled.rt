@@ -8,7 +8,8 @@ ghost use Rattle.demand_spec.specs.Listed.{IsFormulaOf, AreArgumentsOf};
 
 use cell_values::{Addr, Int, TextId};
 use formula_trees::{
-    Args, Fun, Kind, Op, Part, Reference, Sign, Tree, are_enough, area_of, kind_of, may_go_on, resolve,
+    Args, Fun, Kind, Op, Part, Reference, Sign, Tree, are_enough, area_of, kind_of, may_go_on,
+    resolve,
 };
 use std::alloc::{Allocator, Global};
 use std::process::Abort;
