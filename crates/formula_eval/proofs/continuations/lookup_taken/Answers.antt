@@ -1,7 +1,7 @@
 use Rattle.std.proofs.Common.{◌<◌, sym, ◌∙◌, arith}
 use Rattle.shared_expressions.specs.Trees.{tree_at}
 use Rattle.formula_eval.proofs.Searches.{range_is, lookup_few, lookup_goes}
-use Rattle.formula_eval.proofs.taken.lookup_taken.Goals as goal
+use Rattle.formula_eval.proofs.continuations.lookup_taken.Goals as goal
 
 pub overflow_add-n : goal.overflow_add-n
 overflow_add-n c = (let few : c.args.n < 65536 = lookup_few c.args.at (tree_at c.args.pool.now c.args.id) c.args.fun c.in-Cells.area c.args.m c.args.n c.requires.call c.in-Cells.ensures.within c.in-Cells.ensures.same c.requires.line in omega arith)

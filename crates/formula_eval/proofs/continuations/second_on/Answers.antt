@@ -8,7 +8,7 @@ use Rattle.formula_eval.specs.declared.work.Work.TheVariants.{Second}
 use Rattle.formula_eval.specs.Machine.{GoesOn}
 use Rattle.formula_eval.proofs.Values.{binary_is, binary_meant}
 use Rattle.formula_eval.proofs.Begins.{call_gives}
-use Rattle.formula_eval.proofs.taken.second_on.Goals as goal
+use Rattle.formula_eval.proofs.continuations.second_on.Goals as goal
 
 pub returns-in-Mod-clause-goes : goal.returns-in-Mod-clause-goes
 returns-in-Mod-clause-goes c =

@@ -10,7 +10,7 @@ use Rattle.formula_eval.specs.Machine.{GoesOn, Waits}
 use Rattle.formula_eval.proofs.Values.{unary_is, unary_meant}
 use Rattle.formula_eval.proofs.Begins.{call_gives, go_first}
 use Rattle.formula_eval.proofs.Searches.{first_is_two}
-use Rattle.formula_eval.proofs.taken.first_on.Goals as goal
+use Rattle.formula_eval.proofs.continuations.first_on.Goals as goal
 
 pub returns-in-Abs-clause-goes : goal.returns-in-Abs-clause-goes
 returns-in-Abs-clause-goes c =

@@ -2,23 +2,23 @@
 ghost use Rattle.std.specs.Prelude.{◌≡◌, ◌<◌, ◌+◌, Some, length, true};
 ghost use Rattle.cell_values.specs.Areas.{IsArea};
 ghost use Rattle.cell_values.specs.Texts.{Texts};
-ghost use Rattle.builtin_functions.specs.Tables.{IsValueOf};
-ghost use Rattle.formula_trees.specs.Mentions.{Cells};
+ghost use Rattle.cell_values.specs.Values.{IsValueOf};
+ghost use Rattle.formula_trees.specs.declared.place.Place.TheVariants.{Cells};
 ghost use Rattle.shared_expressions.specs.Trees.{root_of, tree_at, child_of};
 ghost use Rattle.formula_eval.specs.declared.work.Work.TheVariants.{First, Second, Turn, Argument, Cell, Search, Lookup};
 ghost use Rattle.formula_eval.specs.Machine.{place_named, index_in, is_lookup, fun_of, range_of, HasLine, Holds, IsOperand, WorkFits, GoesOn, Does};
 
 use crate::calls::{
-    cells_on, child_instead, fold_of, fold_on, index_below, is_error, is_found, is_lookup,
-    lookup_on, number, range, search_on, second_number, take, turn_of, turn_on, wait_for,
+    cells_on, child_instead, fold_of, fold_on, index_below, is_found, is_lookup, lookup_on, range,
+    search_on, second_number, take, turn_of, turn_on, wait_for,
 };
-use crate::cells::{Place, across, cell, columns, rows, target};
+use crate::cells::{across, target};
 use crate::frames::Frames;
 use crate::work::{Step, Work};
 use builtin_functions::operators::{binary, condition, unary};
 use builtin_functions::{Op2, Sign2};
 use cell_values::{Addr, Code, Int, Texts, Value};
-use formula_trees::Fun;
+use formula_trees::{Fun, Place};
 use shared_expressions::{ExprId, Node, Pool};
 
 /// A formula has at most 512 nodes, so CHOOSE has at most so many choices.
@@ -80,17 +80,17 @@ fn first_on(
             Ok(b) => Step::Give(Value::Bool(!b)),
         },
         Fun::Choose => choose_on(frames, pool, id, at, fun, v),
-        Fun::IfError => match is_error(v) {
+        Fun::IfError => match v.is_error() {
             true => child_instead(pool, id, 1, Value::Error(Code::Value)),
             false => Step::Give(v),
         },
-        Fun::IsError => Step::Give(Value::Bool(is_error(v))),
+        Fun::IsError => Step::Give(Value::Bool(v.is_error())),
         Fun::Abs => Step::Give(unary(Sign2::Abs, v)),
-        Fun::Match => match is_error(v) {
+        Fun::Match => match v.is_error() {
             true => Step::Give(v),
             false => match_on(frames, pool, texts, id, at, fun, v),
         },
-        _ => match is_error(v) {
+        _ => match v.is_error() {
             true => Step::Give(v),
             false => wait_for(frames, pool, id, second_number(fun), Work::Second(v)),
         },
@@ -105,10 +105,10 @@ fn choose_on(frames: &mut Frames, pool: &Pool, id: ExprId, at: Addr, fun: Fun, v
     ensures goes { (ts : Texts) → IsValueOf ts v → GoesOn pool.now ts at id First v frames.old.frames result frames.new.frames }
     ensures room { frames.new.room ≡ frames.old.room }
 {
-    if is_error(v) {
+    if v.is_error() {
         return Step::Give(v);
     }
-    match number(v) {
+    match v.as_number() {
         None => Step::Give(Value::Error(Code::Value)),
         Some(n) => match index_below(MOST_CHOICES, n) {
             None => Step::Give(Value::Error(Code::Value)),
@@ -161,11 +161,11 @@ fn second_on(
     match fun {
         Fun::Mod => Step::Give(binary(Op2::Mod, x, v, texts)),
         Fun::Quotient => Step::Give(binary(Op2::Quotient, x, v, texts)),
-        Fun::Index => match is_error(v) {
+        Fun::Index => match v.is_error() {
             true => Step::Give(v),
             false => index_on(pool, id, at, x, v),
         },
-        Fun::VLookup | Fun::HLookup => match is_error(v) {
+        Fun::VLookup | Fun::HLookup => match v.is_error() {
             true => Step::Give(v),
             false => line_on(frames, pool, texts, id, at, fun, x, v),
         },
@@ -177,12 +177,12 @@ fn second_on(
 fn index_on(pool: &Pool, id: ExprId, at: Addr, row: Value, column: Value) -> Step
     ensures { Does (index_in row column (place_named at (child_of 0 (tree_at pool.now id)))) result }
 {
-    let (Some(i), Some(j)) = (number(row), number(column)) else {
+    let (Some(i), Some(j)) = (row.as_number(), column.as_number()) else {
         return Step::Give(Value::Error(Code::Value));
     };
     match range(pool, id, 0, at) {
-        Place::Cells(area) => match (index_below(rows(area), i), index_below(columns(area), j)) {
-            (Some(m), Some(n)) => Step::Look(cell(area, m, n)),
+        Place::Cells(area) => match (index_below(area.rows(), i), index_below(area.columns(), j)) {
+            (Some(m), Some(n)) => Step::Look(area.cell(m, n)),
             _ => Step::Give(Value::Error(Code::Ref)),
         },
         _ => Step::Give(Value::Error(Code::Ref)),
@@ -208,7 +208,7 @@ fn line_on(
     ensures goes { GoesOn pool.now texts.now at id (Second x) v frames.old.frames result frames.new.frames }
     ensures room { frames.new.room ≡ frames.old.room }
 {
-    let Some(j) = number(v) else {
+    let Some(j) = v.as_number() else {
         return Step::Give(Value::Error(Code::Value));
     };
     match range(pool, id, 1, at) {

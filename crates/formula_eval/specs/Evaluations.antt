@@ -6,7 +6,7 @@ use Rattle.demand_spec.specs.declared.Asked.{Asked}
 use Rattle.demand_spec.specs.declared.Asked.TheVariants.{Val, Needs}
 use Rattle.demand_spec.specs.Plan.{Plan, Give, Demand, run}
 use Rattle.cell_values.specs.Texts.{Texts}
-use Rattle.builtin_functions.specs.Tables.{IsValueOf}
+use Rattle.cell_values.specs.Values.{IsValueOf}
 use Rattle.formula_eval.specs.declared.work.Frame.{Frame}
 use Rattle.formula_eval.specs.declared.work.Frame.TheVariants.{At, Opened}
 use Rattle.formula_eval.specs.declared.work.Step.{Step}
