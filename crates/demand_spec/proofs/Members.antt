@@ -1,6 +1,8 @@
 -- The members of a list of addresses by a test, and the cells of an area by its walk.
 use Rattle.std.proofs.Common.{◌≡◌, ℕ, ◌+◌, ◌-◌, ◌<◌, ◌≤◌, Bool, true, false, ◌||◌, inl, inr, List, [], ◌∷◌, refl, sym, ap, ◌∙◌, subst, arith}
 use Rattle.std.specs.List.{list_any}
+use Rattle.std.proofs.lemmas.Bool.{or_right}
+use Rattle.std.proofs.lemmas.Bool.Decides.{same_from_decides}
 use Rattle.cell_values.specs.declared.address.Addr.{Addr}
 use Rattle.cell_values.specs.declared.address.Area.{Area}
 use Rattle.cell_values.specs.Addresses.{same_addr}
@@ -8,10 +10,6 @@ use Rattle.cell_values.specs.Areas.{height, width, cell_of, walk, is_inside}
 use Rattle.cell_values.proofs.Order.{same_addr-refl, same_addr-true}
 use Rattle.demand_spec.specs.Laws.{In}
 use Rattle.demand_spec.proofs.Walks.{in_walk, walk_parts}
-
-or_right : (p q : Bool) → q ≡ true → (p || q) ≡ true
-or_right true q e = refl
-or_right false q e = e
 
 -- a member passes the test
 pub member_found : (c : Addr) (xs : List Addr) → In c xs → list_any (same_addr c) xs ≡ true
@@ -30,46 +28,25 @@ found_member c (x ∷ xs) h = go (same_addr c x) refl h (found_member c xs)
 
 -- the walk of an area has exactly its cells
 
-entry_atside : (r : Area) (i j : ℕ) → i < height r → j < width r → is_inside r (cell_of r i j) ≡ true
+cell_inside : (r : Area) (i j : ℕ) → i < height r → j < width r → is_inside r (cell_of r i j) ≡ true
 unfolding height width
-entry_atside r i j h w = grind (arith, h, w)
+cell_inside r i j h w = grind (arith, h, w)
 
 pub walked_inside : (r : Area) (a : Addr) → In a (walk r) → is_inside r a ≡ true
-walked_inside r a m = (let p = walk_parts r a m in subst (λ z. is_inside r z ≡ true) (sym p.same) (entry_atside r p.i p.j p.high p.wide))
-
-pub record Within (r : Area) (a : Addr) : Type 0 where
-  pub sheet : r.sheet ≡ a.sheet
-  pub top : r.top ≤ a.row
-  pub bottom : a.row ≤ r.bottom
-  pub left : r.left ≤ a.col
-  pub right : a.col ≤ r.right
-
-pub inside_within : (r : Area) (a : Addr) → is_inside r a ≡ true → Within r a
-inside_within r a h = record {
-  sheet = grind (arith, h);
-  top = grind (arith, h);
-  bottom = grind (arith, h);
-  left = grind (arith, h);
-  right = grind (arith, h);
-}
+walked_inside r a m = (let p = walk_parts r a m in subst (λ z. is_inside r z ≡ true) (sym p.same) (cell_inside r p.i p.j p.high p.wide))
 
 pub inside_walked : (r : Area) (a : Addr) → is_inside r a ≡ true → In a (walk r)
 unfolding height width
 inside_walked r a h =
-    let p = inside_within r a h in
-    let t = p.top in
-    let b = p.bottom in
-    let l = p.left in
-    let w = p.right in
-    let row : r.top + (a.row - r.top) ≡ a.row = omega (arith, t) in
-    let col : r.left + (a.col - r.left) ≡ a.col = omega (arith, l) in
-    let same : cell_of r (a.row - r.top) (a.col - r.left) ≡ a = (λ i. record { sheet = p.sheet i; row = row i; col = col i }) in
-    subst (λ z. In z (walk r)) same (in_walk r (a.row - r.top) (a.col - r.left) (omega (arith, t, b)) (omega (arith, l, w)))
+    let sheet : r.sheet ≡ a.sheet = grind (arith, h) in
+    let top : r.top ≤ a.row = grind (arith, h) in
+    let bottom : a.row ≤ r.bottom = grind (arith, h) in
+    let left : r.left ≤ a.col = grind (arith, h) in
+    let right : a.col ≤ r.right = grind (arith, h) in
+    let row : r.top + (a.row - r.top) ≡ a.row = omega (arith, top) in
+    let col : r.left + (a.col - r.left) ≡ a.col = omega (arith, left) in
+    let same : cell_of r (a.row - r.top) (a.col - r.left) ≡ a = (λ i. record { sheet = sheet i; row = row i; col = col i }) in
+    subst (λ z. In z (walk r)) same (in_walk r (a.row - r.top) (a.col - r.left) (omega (arith, top, bottom)) (omega (arith, left, right)))
 
 pub walk_holds : (r : Area) (a : Addr) → list_any (same_addr a) (walk r) ≡ is_inside r a
-walk_holds r a = both_or_none (list_any (same_addr a) (walk r)) (is_inside r a) (λ e. walked_inside r a (found_member a (walk r) e)) (λ e. member_found a (walk r) (inside_walked r a e))
-  where
-    both_or_none : (x y : Bool) → (x ≡ true → y ≡ true) → (y ≡ true → x ≡ true) → x ≡ y
-    both_or_none true y h k = sym (h refl)
-    both_or_none false true h k = k refl
-    both_or_none false false h k = refl
+walk_holds r a = same_from_decides (list_any (same_addr a) (walk r)) (is_inside r a) (found_member a (walk r), member_found a (walk r)) (inside_walked r a, walked_inside r a)

@@ -1,7 +1,7 @@
 -- The cells that an edit leaves pending, as a list.
 use Rattle.std.proofs.Common.{◌≡◌, ℕ, zero, suc, ◌≤◌, Bool, true, false, cond, ◌||◌, ◌⊎◌, inl, inr, ⊎_elim, List, [], ◌∷◌, length, Option, Some, None, refl, sym, ap, ◌∙◌, subst, arith}
 use Rattle.std.specs.List.{list_any, filter}
-use Rattle.std.proofs.lemmas.Bool.{cases_Bool, or_cases}
+use Rattle.std.proofs.lemmas.Bool.{cases_Bool, or_cases, or_left, or_right}
 use Rattle.cell_values.specs.declared.address.Addr.{Addr}
 use Rattle.cell_values.specs.Addresses.{same_addr, IsBefore}
 use Rattle.formula_trees.specs.Expr.{Expr}
@@ -15,14 +15,6 @@ use Rattle.demand_spec.proofs.Cycles.{in_or_not, no_more}
 use Rattle.demand_spec.proofs.OneList.{before_member}
 use Rattle.demand_spec.proofs.Local.{of_set_or_not, pending_closed}
 use Rattle.demand_spec.proofs.Members.{member_found, found_member}
-
-or_left : (p q : Bool) → p ≡ true → (p || q) ≡ true
-or_left true q e = refl
-or_left false q e = cc
-
-or_right : (p q : Bool) → q ≡ true → (p || q) ≡ true
-or_right true q e = refl
-or_right false q e = e
 
 -- a cell that passes a test, among the members of a list
 

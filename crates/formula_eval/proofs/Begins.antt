@@ -8,9 +8,9 @@ use Rattle.formula_trees.specs.declared.tree.Fun.{Fun}
 use Rattle.formula_trees.specs.declared.tree.Op.{Op}
 use Rattle.formula_trees.specs.declared.tree.Sign.{Sign}
 use Rattle.formula_trees.specs.Expr.{Expr, Exprs, End, More}
-use Rattle.builtin_functions.specs.Tables.{IsValueOf, is_error, table, unary_value, binary_value}
+use Rattle.cell_values.specs.Values.{IsValueOf, is_error}
 use Rattle.demand_spec.specs.Plan.{Plan, Give, and_then}
-use Rattle.demand_spec.specs.Formula.{fails, unless_error, op_of, sign_of, plan}
+use Rattle.demand_spec.specs.Formula.{fails, unless_error, operator_value, sign_value, plan}
 use Rattle.shared_expressions.specs.declared.nodes.ExprId.{ExprId}
 use Rattle.shared_expressions.specs.declared.nodes.Node.{Node}
 use Rattle.shared_expressions.specs.Trees.{Trees, tree_at, root_of, nth, child_of}
@@ -19,7 +19,7 @@ use Rattle.formula_eval.specs.declared.work.Work.TheVariants.{First, Second, Tur
 use Rattle.formula_eval.specs.declared.work.Frame.{Frame}
 use Rattle.formula_eval.specs.declared.work.Step.{Step}
 use Rattle.formula_eval.specs.Machine.{plan_or, place_named, first_number, second_number, turn_of, fold_of, call_first, call_second, first_of_two, frame_plan, span, cost, costs, costs_but, call_left, frame_left, IsCall, IsCovered, IsOperand, WorkFits, Starts, GoesOn, Waits, Instead, arguments_of}
-use Rattle.formula_eval.proofs.Values.{unary_is, unary_meant, binary_is, binary_meant}
+use Rattle.formula_eval.proofs.Values.{sign_is, sign_meant, operator_is, operator_meant}
 use Rattle.formula_eval.proofs.Moves.{gives, instead, Awaits, waited}
 
 -- A sign
@@ -39,11 +39,11 @@ start_unary p ts at id s fs step fs' r w = waited p ts at id (plan ts at (tree_a
     there (Expr.Unary t b) r h = absurd (cc)
     there e r h = absurd (cc)
 
-pub go_unary : (p : Trees) (ts : Texts) (at : Addr) (id : ExprId) (s : Sign) (v : Value) (fs : List Frame) → Node.Unary s ≡ root_of (tree_at p id) → GoesOn p ts at id First v fs (Step.Give (unary_value (sign_of s) v)) fs
-go_unary p ts at id s v fs r = gives p ts at (tree_at p id) (frame_plan ts at (tree_at p id) First v) (frame_left at (tree_at p id) First) fs (unary_value (sign_of s) v) (same (tree_at p id) r) (less (tree_at p id) r) (λ t. unary_meant ts (sign_of s) v)
+pub go_unary : (p : Trees) (ts : Texts) (at : Addr) (id : ExprId) (s : Sign) (v : Value) (fs : List Frame) → Node.Unary s ≡ root_of (tree_at p id) → GoesOn p ts at id First v fs (Step.Give (sign_value s v)) fs
+go_unary p ts at id s v fs r = gives p ts at (tree_at p id) (frame_plan ts at (tree_at p id) First v) (frame_left at (tree_at p id) First) fs (sign_value s v) (same (tree_at p id) r) (less (tree_at p id) r) (λ t. sign_meant ts s v)
   where
-    same : (e : Expr) → Node.Unary s ≡ root_of e → frame_plan ts at e First v ≡ Give (unary_value (sign_of s) v)
-    same (Expr.Unary t b) r = (let is : t ≡ s = cc in unary_is (sign_of t) v ∙ ap (λ z. Give (unary_value (sign_of z) v)) is)
+    same : (e : Expr) → Node.Unary s ≡ root_of e → frame_plan ts at e First v ≡ Give (sign_value s v)
+    same (Expr.Unary t b) r = (let is : t ≡ s = cc in sign_is t v ∙ ap (λ z. Give (sign_value z v)) is)
     same e r = absurd (cc)
 
     less : (e : Expr) → Node.Unary s ≡ root_of e → 0 < frame_left at e First
@@ -96,7 +96,7 @@ pub go_left_error : (p : Trees) (ts : Texts) (at : Addr) (id : ExprId) (o : Op) 
 go_left_error p ts at id o v fs r h = gives p ts at (tree_at p id) (frame_plan ts at (tree_at p id) First v) (frame_left at (tree_at p id) First) fs v (same (tree_at p id) r) (less (tree_at p id) r) (λ t. error_value ts v h)
   where
     same : (e : Expr) → Node.Binary o ≡ root_of e → frame_plan ts at e First v ≡ Give v
-    same (Expr.Binary q a b) r = error_is v (λ x. and_then (plan ts at b) (λ w. unless_error w (λ y. Give (table ts (op_of q) x y)))) h
+    same (Expr.Binary q a b) r = error_is v (λ x. and_then (plan ts at b) (λ w. unless_error w (λ y. Give (operator_value ts q x y)))) h
     same e r = absurd (cc)
 
     less : (e : Expr) → Node.Binary o ≡ root_of e → 0 < frame_left at e First
@@ -114,18 +114,18 @@ go_left p ts at id o x fs step fs' r n m w = waited p ts at id (frame_plan ts at
     fit e r = operand_from ts x n m
 
     awaits : (e : Expr) → Node.Binary o ≡ root_of e → (a : Expr) → child_of 1 e ≡ Some a → Awaits ts at e (frame_plan ts at e First x) (frame_left at e First) (Second x) a
-    awaits (Expr.Binary q b c) r a h = (let same : c ≡ a = cc in subst (Awaits ts at (Expr.Binary q b c) (frame_plan ts at (Expr.Binary q b c) First x) (3 + cost at c) (Second x)) same (record { goes_on = no_error x (λ u. and_then (plan ts at c) (λ w. unless_error w (λ y. Give (table ts (op_of q) u y)))) n; falls = omega arith }))
+    awaits (Expr.Binary q b c) r a h = (let same : c ≡ a = cc in subst (Awaits ts at (Expr.Binary q b c) (frame_plan ts at (Expr.Binary q b c) First x) (3 + cost at c) (Second x)) same (record { goes_on = no_error x (λ u. and_then (plan ts at c) (λ w. unless_error w (λ y. Give (operator_value ts q u y)))) n; falls = omega arith }))
     awaits e r a h = absurd (cc)
 
     there : (e : Expr) → Node.Binary o ≡ root_of e → child_of 1 e ≡ None → frame_plan ts at e First x ≡ fails Code.Value
     there (Expr.Binary q b c) r h = absurd (cc)
     there e r h = absurd (cc)
 
-pub go_right : (p : Trees) (ts : Texts) (at : Addr) (id : ExprId) (o : Op) (x v : Value) (fs : List Frame) → Node.Binary o ≡ root_of (tree_at p id) → IsOperand ts x → GoesOn p ts at id (Second x) v fs (Step.Give (binary_value ts (op_of o) x v)) fs
-go_right p ts at id o x v fs r n = gives p ts at (tree_at p id) (frame_plan ts at (tree_at p id) (Second x) v) (frame_left at (tree_at p id) (Second x)) fs (binary_value ts (op_of o) x v) (same (tree_at p id) r) (less (tree_at p id) r) (λ t. binary_meant ts (op_of o) x v n.1)
+pub go_right : (p : Trees) (ts : Texts) (at : Addr) (id : ExprId) (o : Op) (x v : Value) (fs : List Frame) → Node.Binary o ≡ root_of (tree_at p id) → IsOperand ts x → GoesOn p ts at id (Second x) v fs (Step.Give (operator_value ts o x v)) fs
+go_right p ts at id o x v fs r n = gives p ts at (tree_at p id) (frame_plan ts at (tree_at p id) (Second x) v) (frame_left at (tree_at p id) (Second x)) fs (operator_value ts o x v) (same (tree_at p id) r) (less (tree_at p id) r) (λ t. operator_meant ts o x v n.1)
   where
-    same : (e : Expr) → Node.Binary o ≡ root_of e → frame_plan ts at e (Second x) v ≡ Give (binary_value ts (op_of o) x v)
-    same (Expr.Binary q a b) r = (let is : q ≡ o = cc in binary_is ts (op_of q) x v n.1 ∙ ap (λ z. Give (binary_value ts (op_of z) x v)) is)
+    same : (e : Expr) → Node.Binary o ≡ root_of e → frame_plan ts at e (Second x) v ≡ Give (operator_value ts o x v)
+    same (Expr.Binary q a b) r = (let is : q ≡ o = cc in operator_is ts q x v n.1 ∙ ap (λ z. Give (operator_value ts z x v)) is)
     same e r = absurd (cc)
 
     less : (e : Expr) → Node.Binary o ≡ root_of e → 0 < frame_left at e (Second x)

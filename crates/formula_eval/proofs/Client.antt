@@ -4,32 +4,22 @@ use Rattle.cell_values.specs.declared.address.Addr.{Addr}
 use Rattle.cell_values.specs.declared.values.Value.{Value}
 use Rattle.cell_values.specs.Addresses.{IsBefore, same_addr}
 use Rattle.cell_values.specs.Texts.{Texts}
-use Rattle.builtin_functions.specs.Tables.{IsValueOf}
+use Rattle.cell_values.specs.Values.{IsValueOf}
 use Rattle.formula_trees.specs.Expr.{Expr}
 use Rattle.demand_spec.specs.declared.Asked.TheVariants.{Val}
 use Rattle.demand_spec.specs.Asks.{any_value}
 use Rattle.demand_spec.specs.Book.{Book, Content, look, look_at, formula_at, own}
-use Rattle.demand_spec.specs.Listed.{value_in, IsAfterAll, AreKnownOf}
+use Rattle.cell_values.specs.Order.{addresses, entry_at, IsAfterAll}
+use Rattle.cell_values.proofs.Order.{before_trans}
+use Rattle.demand_spec.specs.Listed.{AreKnownOf}
 use Rattle.demand_spec.proofs.Texts.{look_text}
 use Rattle.formula_eval.specs.declared.machine.Look.{Look}
-use Rattle.formula_eval.specs.Told.{found_as, MeansValue}
+use Rattle.formula_eval.specs.Evaluations.{found_as, MeansValue}
 use Rattle.formula_eval.specs.Laws.{IsKept}
 use Rattle.formula_eval.specs.Client.{Sight, IsSight, look_on}
 
-before_trans : (a b c : Addr) → IsBefore a b → IsBefore b c → IsBefore a c
-before_trans a b c (inl h) (inl k) = inl (omega (arith, h, k))
-before_trans a b c (inl h) (inr k) = inl (omega (arith, h, k.0))
-before_trans a b c (inr h) (inl k) = inl (omega (arith, h.0, k))
-before_trans a b c (inr h) (inr k) = inr (omega (arith, h.0, k.0), rows h.1 k.1)
-  where
-    rows : (a.row < b.row) ⊎ ((a.row ≡ b.row) × (a.col < b.col)) → (b.row < c.row) ⊎ ((b.row ≡ c.row) × (b.col < c.col)) → (a.row < c.row) ⊎ ((a.row ≡ c.row) × (a.col < c.col))
-    rows (inl x) (inl y) = inl (omega (arith, x, y))
-    rows (inl x) (inr y) = inl (omega (arith, x, y.0))
-    rows (inr x) (inl y) = inl (omega (arith, x.0, y))
-    rows (inr x) (inr y) = inr (omega (arith, x.0, y.0), omega (arith, x.1, y.1))
-
 -- what lies after a cell lies after all cells that this one is put behind
-pub after_push : (cs : List (Addr × Content)) (c : Addr × Content) → IsAfterAll c.0 cs → (next : Addr) → IsBefore c.0 next → IsAfterAll next (cs ++ c ∷ [])
+pub after_push : (cs : List (Addr × Content)) (c : Addr × Content) → IsAfterAll c.0 (addresses cs) → (next : Addr) → IsBefore c.0 next → IsAfterAll next (addresses (cs ++ c ∷ []))
 after_push [] c h next k = (k, tt)
 after_push (d ∷ cs) c h next k = (before_trans d.0 c.0 next h.0 k, after_push cs c h.1 next k)
 
@@ -42,14 +32,14 @@ pushed_on : (b : Bool) (u w v : Value) (x y : Option Value) → (y ≡ Some v �
 pushed_on true u w v x y f h = inl h
 pushed_on false u w v x y f h = f h
 
-pushed : (told : List (Addr × Value)) (k : Addr × Value) (a : Addr) (v : Value) → value_in (told ++ k ∷ []) a ≡ Some v → (value_in told a ≡ Some v) ⊎ (k.1 ≡ v)
+pushed : (told : List (Addr × Value)) (k : Addr × Value) (a : Addr) (v : Value) → entry_at (told ++ k ∷ []) a ≡ Some v → (entry_at told a ≡ Some v) ⊎ (k.1 ≡ v)
 pushed [] k a v h = inr (pushed_one (same_addr a k.0) k.1 v h)
-pushed (t ∷ told) k a v h = pushed_on (same_addr a t.0) t.1 k.1 v (value_in told a) (value_in (told ++ k ∷ []) a) (pushed told k a v) h
+pushed (t ∷ told) k a v h = pushed_on (same_addr a t.0) t.1 k.1 v (entry_at told a) (entry_at (told ++ k ∷ []) a) (pushed told k a v) h
 
-pub told_push : (ts : Texts) (told : List (Addr × Value)) (k : Addr × Value) → AreKnownOf ts (value_in told) → IsValueOf ts k.1 → AreKnownOf ts (value_in (told ++ k ∷ []))
+pub told_push : (ts : Texts) (told : List (Addr × Value)) (k : Addr × Value) → AreKnownOf ts (entry_at told) → IsValueOf ts k.1 → AreKnownOf ts (entry_at (told ++ k ∷ []))
 told_push ts told k h w a v e = by_case (pushed told k a v e)
   where
-    by_case : (value_in told a ≡ Some v) ⊎ (k.1 ≡ v) → IsValueOf ts v
+    by_case : (entry_at told a ≡ Some v) ⊎ (k.1 ≡ v) → IsValueOf ts v
     by_case (inl x) = h a v x
     by_case (inr x) = subst (IsValueOf ts) x w
 
@@ -58,17 +48,17 @@ kept_on : (b : Bool) (u w : Value) (x y : Option Value) → (x ≡ Some w → y 
 kept_on true u w x y f h = h
 kept_on false u w x y f h = f h
 
-kept : (told : List (Addr × Value)) (k : Addr × Value) (a : Addr) (w : Value) → value_in told a ≡ Some w → value_in (told ++ k ∷ []) a ≡ Some w
+kept : (told : List (Addr × Value)) (k : Addr × Value) (a : Addr) (w : Value) → entry_at told a ≡ Some w → entry_at (told ++ k ∷ []) a ≡ Some w
 kept [] k a w h = absurd (cc)
-kept (t ∷ told) k a w h = kept_on (same_addr a t.0) t.1 w (value_in told a) (value_in (told ++ k ∷ []) a) (kept told k a w) h
+kept (t ∷ told) k a w h = kept_on (same_addr a t.0) t.1 w (entry_at told a) (entry_at (told ++ k ∷ []) a) (kept told k a w) h
 
 look_kept : (o : Option Expr) (u : Value) (x y : Option Value) (a : Addr) (v : Value) → ((w : Value) → x ≡ Some w → y ≡ Some w) → look_at o u x a ≡ Val v → look_at o u y a ≡ Val v
 look_kept None u x y a v f h = h
 look_kept (Some t) u None y a v f h = absurd (cc)
 look_kept (Some t) u (Some w) y a v f h = rw (f w refl) h
 
-pub kept_push : (b : Book) (told : List (Addr × Value)) (k : Addr × Value) → IsKept (look b (value_in told)) (look b (value_in (told ++ k ∷ [])))
-kept_push b told k a v h = look_kept (formula_at b a) (own b a) (value_in told a) (value_in (told ++ k ∷ []) a) a v (kept told k a) h
+pub kept_push : (b : Book) (told : List (Addr × Value)) (k : Addr × Value) → IsKept (look b (entry_at told)) (look b (entry_at (told ++ k ∷ [])))
+kept_push b told k a v h = look_kept (formula_at b a) (own b a) (entry_at told a) (entry_at (told ++ k ∷ []) a) a v (kept told k a) h
 
 pub seen_text : (s : Sight) → IsSight s → (r : Look) (at : Addr) → found_as r at ≡ look_on s at → MeansValue s.texts r
 seen_text s h (Look.Val v) at e = look_text (record { cells = s.cells; texts = s.texts; known = s.told }) (record { cells_of = h.cells_of; known_of = h.told_of }) at (Ok v) (ap any_value e)

@@ -1,5 +1,4 @@
 pub mod Values
-pub mod Walking
 pub mod Sounded
 pub mod Parts
 pub mod Moves

@@ -5,7 +5,7 @@ use Rattle.cell_values.specs.declared.address.Area.{Area}
 use Rattle.cell_values.specs.Areas.{height, width, cell_of, row_of, column_of, IsArea}
 use Rattle.formula_trees.specs.declared.tree.Fun.{Fun}
 use Rattle.formula_eval.specs.Machine.{line_of, target_of, across}
-use Rattle.formula_eval.proofs.Walking.{length-column, length-first_row, drop_column, drop_first_row, drop_past}
+use Rattle.cell_values.proofs.Walking.{length-column, length-first_row, drop_column, drop_first_row, drop_past}
 
 pub area_height : (r : Area) → IsArea r → 0 < height r
 unfolding height

@@ -5,7 +5,7 @@ use Rattle.cell_values.specs.declared.values.Code.{Code}
 use Rattle.cell_values.specs.declared.values.Value.{Value}
 use Rattle.cell_values.specs.Texts.{Texts}
 use Rattle.formula_trees.specs.Expr.{Expr}
-use Rattle.builtin_functions.specs.Tables.{IsValueOf, is_error}
+use Rattle.cell_values.specs.Values.{IsValueOf, is_error}
 use Rattle.demand_spec.specs.Plan.{Plan, Give, Demand, and_then}
 use Rattle.demand_spec.specs.Formula.{fails, plan}
 use Rattle.shared_expressions.specs.declared.nodes.ExprId.{ExprId}

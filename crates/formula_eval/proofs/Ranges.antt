@@ -9,7 +9,9 @@ use Rattle.cell_values.specs.Areas.{walk}
 use Rattle.cell_values.specs.Texts.{Texts}
 use Rattle.formula_trees.specs.declared.tree.Fun.{Fun}
 use Rattle.formula_trees.specs.Expr.{Expr, Exprs, End, More}
-use Rattle.formula_trees.specs.Mentions.{Place, Nowhere, Bad, Cells, cells_of, place_of}
+use Rattle.formula_trees.specs.declared.place.Place.{Place}
+use Rattle.formula_trees.specs.declared.place.Place.TheVariants.{Nowhere, Bad, Cells}
+use Rattle.formula_trees.specs.Mentions.{cells_of, place_of}
 use Rattle.builtin_functions.specs.declared.folds.FoldKind.{FoldKind}
 use Rattle.builtin_functions.specs.Tables.{condition}
 use Rattle.builtin_functions.specs.Folds.{Total, so_far, taken}

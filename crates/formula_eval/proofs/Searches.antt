@@ -8,8 +8,10 @@ use Rattle.cell_values.specs.Areas.{height, width, cell_of, row_of, column_of, I
 use Rattle.cell_values.specs.Texts.{Texts}
 use Rattle.formula_trees.specs.declared.tree.Fun.{Fun}
 use Rattle.formula_trees.specs.Expr.{Expr, Exprs, End, More}
-use Rattle.formula_trees.specs.Mentions.{Place, Nowhere, Bad, Cells, cells_of, place_of}
-use Rattle.builtin_functions.specs.Tables.{is_error, as_number}
+use Rattle.formula_trees.specs.declared.place.Place.{Place}
+use Rattle.formula_trees.specs.declared.place.Place.TheVariants.{Nowhere, Bad, Cells}
+use Rattle.formula_trees.specs.Mentions.{cells_of, place_of}
+use Rattle.cell_values.specs.Values.{is_error, as_number}
 use Rattle.demand_spec.specs.Plan.{Plan, Give, Demand}
 use Rattle.demand_spec.specs.Formula.{fails, is_found, search_plan, arguments, if_cells, if_number, if_up_to, from_one, chosen, value_at}
 use Rattle.shared_expressions.specs.declared.nodes.ExprId.{ExprId}
@@ -21,7 +23,7 @@ use Rattle.formula_eval.specs.declared.work.Frame.TheVariants.{At}
 use Rattle.formula_eval.specs.declared.work.Step.{Step}
 use Rattle.std.proofs.lemmas.Bool.{lt-ltb}
 use Rattle.formula_eval.specs.Machine.{plan_or, place_named, cells_named, index_below, fun_of, is_lookup, line_of, target_of, across, numbered, match_in, index_in, lookup_from, lookup_in, lookup_at, lookup_frame, frame_plan, span, costs_but, line_left, frame_left, Holds, IsOperand, HasLine, range_of, GoesOn, arguments_of, SearchGoesOn, LookupGoesOn, Does, call_first, first_of_two}
-use Rattle.formula_eval.proofs.Walking.{length-column, length-first_row}
+use Rattle.cell_values.proofs.Walking.{length-column, length-first_row}
 use Rattle.formula_eval.proofs.Parts.{plus_one, depth_over, value_at_is, few_children}
 use Rattle.formula_eval.proofs.Moves.{ends, looks, does, AwaitsCell, waits_cell, goes_less}
 use Rattle.formula_eval.proofs.Begins.{no_error, call_gives, goes_with, left_with, child_with, some_left}

@@ -3,7 +3,9 @@ use Rattle.std.proofs.Common.{◌≡◌, ℕ, suc, true, false}
 use Rattle.cell_values.specs.declared.address.Addr.{Addr}
 use Rattle.formula_trees.specs.declared.tree.Fun.{Fun}
 use Rattle.formula_trees.specs.Expr.{Expr, Exprs, End, More}
-use Rattle.formula_trees.specs.Functions.{Kind, Plain, Place, Many, Exact, kind_of}
+use Rattle.formula_trees.specs.declared.functions.Kind.{Kind}
+use Rattle.formula_trees.specs.declared.functions.Kind.TheVariants.{Plain, Place, Many, Exact}
+use Rattle.formula_trees.specs.Functions.{kind_of}
 use Rattle.formula_trees.specs.Sound.{IsExpression, HasArguments, OfKind}
 use Rattle.formula_eval.specs.Machine.{IsCall, IsCovered, AreCovered}
 

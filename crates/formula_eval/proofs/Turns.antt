@@ -14,10 +14,10 @@ use Rattle.formula_eval.specs.declared.work.Frame.TheVariants.{At, Opened}
 use Rattle.formula_eval.specs.declared.work.Step.{Step}
 use Rattle.formula_eval.specs.Stacks.{IsShut, HasNoMark, below, dropped}
 use Rattle.shared_expressions.specs.declared.nodes.ExprId.{ExprId}
-use Rattle.builtin_functions.specs.Tables.{IsValueOf}
+use Rattle.cell_values.specs.Values.{IsValueOf}
 use Rattle.shared_expressions.specs.Trees.{Trees, tree_at, depth}
 use Rattle.formula_eval.specs.Machine.{unwind, meaning, AllFit, StepFits, Fits, Holds, IsMeant, WorkFits, Starts, GoesOn}
-use Rattle.formula_eval.specs.Told.{Reaches, here, looked, more, demanded, Advances, Ends, Turns, Stands, Answered, Comes, rest_of, HasOpen}
+use Rattle.formula_eval.specs.Evaluations.{Reaches, here, looked, more, demanded, Advances, Ends, Turns, Stands, Answered, Comes, rest_of, HasOpen}
 
 pub reaches_on : (l : Addr → Asked) (p q r : Plan) → Reaches l p q → Reaches l q r → Reaches l p r
 reaches_on l p q r (here _) s = s

@@ -9,7 +9,7 @@ use Rattle.cell_values.specs.Texts.{Texts}
 use Rattle.formula_eval.specs.declared.work.Frame.{Frame}
 use Rattle.shared_expressions.specs.Trees.{Trees}
 use Rattle.formula_eval.specs.Stacks.{IsShut, dropped}
-use Rattle.formula_eval.specs.Told.{demanded, rest_of, Answered, Stands, HasOpen}
+use Rattle.formula_eval.specs.Evaluations.{demanded, rest_of, Answered, Stands, HasOpen}
 
 -- what one look gives, the other gives as well
 abbrev pub IsKept : (Addr → Asked) → (Addr → Asked) → Type 0

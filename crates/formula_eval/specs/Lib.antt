@@ -1,6 +1,5 @@
 pub mod Stacks
 pub mod Machine
-pub mod Cells
-pub mod Told
+pub mod Evaluations
 pub mod Laws
 pub mod Client

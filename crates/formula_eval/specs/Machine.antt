@@ -8,15 +8,18 @@ use Rattle.cell_values.specs.Areas.{height, width, cell_of, row_of, column_of, w
 use Rattle.cell_values.specs.Texts.{Texts}
 use Rattle.formula_trees.specs.declared.tree.Fun.{Fun}
 use Rattle.formula_trees.specs.Expr.{Expr, Exprs, End, More}
-use Rattle.formula_trees.specs.Mentions.{Place, Nowhere, Cells, cells_of, place_of}
+use Rattle.formula_trees.specs.declared.place.Place.{Place}
+use Rattle.formula_trees.specs.declared.place.Place.TheVariants.{Nowhere, Cells}
+use Rattle.formula_trees.specs.Mentions.{cells_of, place_of}
 use Rattle.formula_trees.specs.Sound.{nodes}
 use Rattle.builtin_functions.specs.declared.operators.Op2.{Op2}
 use Rattle.builtin_functions.specs.declared.operators.Sign2.{Sign2}
 use Rattle.builtin_functions.specs.declared.folds.FoldKind.{FoldKind}
-use Rattle.builtin_functions.specs.Tables.{IsValueOf, is_error, as_number, condition, table, sign_table}
+use Rattle.cell_values.specs.Values.{IsValueOf, is_error, as_number}
+use Rattle.builtin_functions.specs.Tables.{condition, table, sign_table}
 use Rattle.builtin_functions.specs.Folds.{Total, taken}
 use Rattle.demand_spec.specs.Plan.{Plan, Give, Demand, and_then}
-use Rattle.demand_spec.specs.Formula.{fails, unless_error, or_fail, if_number, if_cells, if_up_to, and_plan, or_plan, from_one, chosen, go_on, fold_cells, fold_plan, is_found, search_plan, op_of, sign_of, plan, arguments}
+use Rattle.demand_spec.specs.Formula.{fails, unless_error, or_fail, if_number, if_cells, if_up_to, and_plan, or_plan, from_one, chosen, go_on, fold_cells, fold_plan, is_found, search_plan, operator_value, sign_value, plan, arguments}
 use Rattle.formula_trees.specs.TextNumbers.{TextsBelow}
 use Rattle.shared_expressions.specs.declared.nodes.ExprId.{ExprId}
 use Rattle.shared_expressions.specs.Trees.{Trees, tree_at, nth, depth}
@@ -49,7 +52,22 @@ first_number _ = 0
 abbrev pub second_number : Fun → ℕ
 second_number Fun.Mod = 1
 second_number Fun.Quotient = 1
-second_number _ = 2
+second_number Fun.If = 2
+second_number Fun.And = 2
+second_number Fun.Or = 2
+second_number Fun.Not = 2
+second_number Fun.Choose = 2
+second_number Fun.IfError = 2
+second_number Fun.IsError = 2
+second_number Fun.Sum = 2
+second_number Fun.Min = 2
+second_number Fun.Max = 2
+second_number Fun.Count = 2
+second_number Fun.Abs = 2
+second_number Fun.Index = 2
+second_number Fun.Match = 2
+second_number Fun.VLookup = 2
+second_number Fun.HLookup = 2
 
 -- a number from 1 to `most`, counted from 0
 abbrev pub index_below : ℕ → ℤ → Option ℕ
@@ -185,9 +203,9 @@ call_frame ts at f args (Lookup m n k) v = lookup_frame (is_lookup f) (lookup_at
 
 -- what a node does with the value that it waits for
 abbrev pub frame_plan : Texts → Addr → Expr → Work → Value → Plan
-frame_plan ts at (Expr.Unary s a) First v = unless_error v (λ x. Give (sign_table (sign_of s) x))
-frame_plan ts at (Expr.Binary o a b) First v = unless_error v (λ x. and_then (plan ts at b) (λ w. unless_error w (λ y. Give (table ts (op_of o) x y))))
-frame_plan ts at (Expr.Binary o a b) (Second x) v = unless_error v (λ y. Give (table ts (op_of o) x y))
+frame_plan ts at (Expr.Unary s a) First v = unless_error v (λ x. Give (sign_value s x))
+frame_plan ts at (Expr.Binary o a b) First v = unless_error v (λ x. and_then (plan ts at b) (λ w. unless_error w (λ y. Give (operator_value ts o x y))))
+frame_plan ts at (Expr.Binary o a b) (Second x) v = unless_error v (λ y. Give (operator_value ts o x y))
 frame_plan ts at (Expr.Call f args) w v = call_frame ts at f args w v
 frame_plan ts at e w v = fails Code.Value
 

@@ -2,21 +2,21 @@
 ghost use Rattle.std.specs.Prelude.{◌≡◌, ◌<◌, IfSome, Some, length, true};
 ghost use Rattle.cell_values.specs.Areas.{IsArea};
 ghost use Rattle.cell_values.specs.Texts.{Texts};
-ghost use Rattle.builtin_functions.specs.Tables.{IsValueOf, is_error, as_number};
+ghost use Rattle.cell_values.specs.Values.{IsValueOf};
 ghost use Rattle.builtin_functions.specs.Folds.{taken};
 ghost use Rattle.demand_spec.specs.Formula.{is_found};
 ghost use Rattle.shared_expressions.specs.Trees.{root_of, tree_at, child_of};
-ghost use Rattle.formula_trees.specs.Mentions.{Cells};
-ghost use Rattle.formula_eval.specs.Cells.{place_seen, HasArea};
+ghost use Rattle.formula_trees.specs.declared.place.Place.TheVariants.{Cells};
+ghost use Rattle.formula_trees.specs.Mentions.{HasArea};
 ghost use Rattle.formula_eval.specs.Machine.{first_number, second_number, turn_of, fold_of, place_named, is_lookup, fun_of, index_below, across, Holds, IsOperand, range_of, Starts, TurnGoesOn, FoldGoesOn, CellsGoOn, SearchGoesOn, LookupGoesOn, Waits, Instead};
 
-use crate::cells::{Place, first_cell, line_cell, next_cell, place_at};
+use crate::cells::{first_cell, line_cell, next_cell, place_at};
 use crate::frames::Frames;
 use crate::work::{Frame, Step, Work};
 use builtin_functions::operators::same;
 use builtin_functions::{Fold, FoldKind, Go};
 use cell_values::{Addr, Area, Code, Int, Texts, Value};
-use formula_trees::Fun;
+use formula_trees::{Fun, Place};
 use shared_expressions::{ExprId, Node, Pool};
 
 /// A child is evaluated while its parent waits.
@@ -46,7 +46,7 @@ pub fn child_instead(pool: &Pool, id: ExprId, k: u32, other: Value) -> Step
 
 /// Where an argument of a call stands.
 pub fn range(pool: &Pool, id: ExprId, k: u32, at: Addr) -> Place
-    ensures same { place_seen result ≡ place_named at (child_of k (tree_at pool.now id)) }
+    ensures same { result ≡ place_named at (child_of k (tree_at pool.now id)) }
     ensures within { HasArea result }
 {
     match pool.child(id, k) {
@@ -55,6 +55,7 @@ pub fn range(pool: &Pool, id: ExprId, k: u32, at: Addr) -> Place
     }
 }
 
+/// Which argument a call demands first.
 fn first_number(fun: Fun) -> u32
     ensures { result ≡ first_number fun }
 {
@@ -64,15 +65,32 @@ fn first_number(fun: Fun) -> u32
     }
 }
 
+/// Which argument a call of two numbers, a place or a lookup demands second.
 pub fn second_number(fun: Fun) -> u32
     ensures { result ≡ second_number fun }
 {
     match fun {
         Fun::Mod | Fun::Quotient => 1,
-        _ => 2,
+        Fun::If
+        | Fun::And
+        | Fun::Or
+        | Fun::Not
+        | Fun::Choose
+        | Fun::IfError
+        | Fun::IsError
+        | Fun::Sum
+        | Fun::Min
+        | Fun::Max
+        | Fun::Count
+        | Fun::Abs
+        | Fun::Index
+        | Fun::Match
+        | Fun::VLookup
+        | Fun::HLookup => 2,
     }
 }
 
+/// The condition with which AND or OR goes on.
 pub fn turn_of(fun: Fun) -> Option<bool>
     ensures { result ≡ turn_of fun }
 {
@@ -83,6 +101,7 @@ pub fn turn_of(fun: Fun) -> Option<bool>
     }
 }
 
+/// The fold that a function is.
 pub fn fold_of(fun: Fun) -> Option<FoldKind>
     ensures { result ≡ fold_of fun }
 {
@@ -95,16 +114,6 @@ pub fn fold_of(fun: Fun) -> Option<FoldKind>
     }
 }
 
-/// Whether a value is an error.
-pub fn is_error(v: Value) -> bool
-    ensures { result ≡ is_error v }
-{
-    match v {
-        Value::Error(_) => true,
-        _ => false,
-    }
-}
-
 /// Whether a function searches a column or a row.
 pub fn is_lookup(fun: Fun) -> bool
     ensures { result ≡ is_lookup fun }
@@ -112,17 +121,6 @@ pub fn is_lookup(fun: Fun) -> bool
     match fun {
         Fun::VLookup | Fun::HLookup => true,
         _ => false,
-    }
-}
-
-/// The number of a value, Blank as 0.
-pub fn number(v: Value) -> Option<Int>
-    ensures { result ≡ as_number v }
-{
-    match v {
-        Value::Number(n) => Some(n),
-        Value::Blank => Some(0),
-        _ => None,
     }
 }
 

@@ -22,8 +22,8 @@ pub enum Kept {
     Opened(Addr, Addr),
 }
 
-// A level of a formula takes 32 bytes.
-const _: () = prove!(size_of::<Kept>() == 32);
+// A level of a formula takes 48 bytes.
+const _: () = prove!(size_of::<Kept>() == 48);
 
 /// The frames of the evaluations that are open, in one room.
 #[derive(Drop)]

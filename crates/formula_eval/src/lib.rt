@@ -5,11 +5,11 @@ ghost use Rattle.formula_eval.specs.Laws.{StandsOn, LooksOnceMore, StandsReady, 
 
 mod calls;
 mod cells;
+mod continuations;
 pub mod frames;
 mod machine;
 #[cfg(test)]
 mod spelled;
-mod taken;
 #[cfg(test)]
 mod tests;
 pub mod work;

@@ -3,25 +3,23 @@ ghost use Rattle.std.specs.Prelude.{◌≡◌, ◌+◌, ◌≤◌, ℕ, List, le
 ghost use Rattle.cell_values.specs.declared.address.Addr.{Addr};
 ghost use Rattle.cell_values.specs.Texts.{Texts};
 ghost use Rattle.formula_trees.specs.Sound.{IsSound};
-ghost use Rattle.builtin_functions.specs.Tables.{IsValueOf};
+ghost use Rattle.cell_values.specs.Values.{IsValueOf};
 ghost use Rattle.demand_spec.specs.Book.{look, ask};
-ghost use Rattle.demand_spec.specs.Formula.{plan, op_of, sign_of};
+ghost use Rattle.demand_spec.specs.Formula.{plan};
 ghost use Rattle.demand_spec.specs.Plan.{Plan};
 ghost use Rattle.shared_expressions.specs.Trees.{tree_at, depth};
 ghost use Rattle.formula_eval.specs.declared.work.Frame.{Frame};
 ghost use Rattle.formula_eval.specs.Stacks.{IsShut, dropped};
 ghost use Rattle.formula_eval.specs.Machine.{Fits, Holds, IsMeant, WorkFits, Starts, GoesOn};
-ghost use Rattle.formula_eval.specs.Told.{found_as, MeansValue, Turns, Comes, Answered, Stands, HasOpen, demanded, rest_of};
+ghost use Rattle.formula_eval.specs.Evaluations.{found_as, MeansValue, Turns, Comes, Answered, Stands, HasOpen, demanded, rest_of};
 
-use crate::calls::{is_error, start_call, wait_for};
+use crate::calls::{start_call, wait_for};
+use crate::continuations::call_on;
 use crate::frames::Frames;
-use crate::taken::call_on;
 use crate::work::{Frame, Step, Work};
-use builtin_functions::operators::{binary, unary};
-use builtin_functions::{Op2, Sign2};
 use cell_values::{Addr, Code, Texts, Value};
-use demand_spec::Asked;
-use formula_trees::{Op, Sign, resolve};
+use demand_spec::{Asked, operator_value, sign_value};
+use formula_trees::resolve;
 use shared_expressions::{ExprId, Node, Pool};
 
 /// What is known of a cell.
@@ -49,32 +47,6 @@ pub trait Known {
         ensures book { book self.new ≡ book self.old }
         ensures values { values self.new ≡ values self.old }
         ensures looks { looks self.new ≡ min (looks self.old + 1) 18446744073709551615 };
-}
-
-fn op_of(op: Op) -> Op2
-    ensures { result ≡ op_of op }
-{
-    match op {
-        Op::Add => Op2::Add,
-        Op::Sub => Op2::Sub,
-        Op::Mul => Op2::Mul,
-        Op::Div => Op2::Div,
-        Op::Eq => Op2::Eq,
-        Op::Ne => Op2::Ne,
-        Op::Lt => Op2::Lt,
-        Op::Le => Op2::Le,
-        Op::Gt => Op2::Gt,
-        Op::Ge => Op2::Ge,
-    }
-}
-
-fn sign_of(sign: Sign) -> Sign2
-    ensures { result ≡ sign_of sign }
-{
-    match sign {
-        Sign::Minus => Sign2::Minus,
-        Sign::Plus => Sign2::Plus,
-    }
 }
 
 /// An expression is begun.
@@ -116,12 +88,12 @@ fn go_on(
     ensures room { frames.new.room ≡ frames.old.room }
 {
     match (pool.node(id), work) {
-        (Node::Unary(sign), Work::First) => Step::Give(unary(sign_of(sign), v)),
-        (Node::Binary(_), Work::First) => match is_error(v) {
+        (Node::Unary(sign), Work::First) => Step::Give(sign_value(sign, v)),
+        (Node::Binary(_), Work::First) => match v.is_error() {
             true => Step::Give(v),
             false => wait_for(frames, pool, id, 1, Work::Second(v)),
         },
-        (Node::Binary(op), Work::Second(x)) => Step::Give(binary(op_of(op), x, v, texts)),
+        (Node::Binary(op), Work::Second(x)) => Step::Give(operator_value(op, x, v, texts)),
         (Node::Call(fun), _) => call_on(frames, pool, texts, id, at, fun, work, v),
         _ => Step::Give(Value::Error(Code::Value)),
     }

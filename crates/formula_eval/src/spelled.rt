@@ -2,12 +2,15 @@
 ghost use Rattle.std.specs.Prelude.{◌≡◌, ◌+◌, ◌≤◌, IsTrue, IfSome};
 ghost use Rattle.cell_values.specs.Texts.{Texts as Bytes, IsTextOf};
 ghost use Rattle.formula_trees.specs.Expr.{expr_of, exprs_of};
-ghost use Rattle.formula_trees.specs.Functions.{Many, kind_of, enough, takes_more};
+ghost use Rattle.formula_trees.specs.declared.functions.Kind.TheVariants.{Many};
 ghost use Rattle.formula_trees.specs.Sound.{IsSound, IsExpression, HasArguments, OfKind, IsPlace, IsRange, IsExact, nodes, nodes_of};
 ghost use Rattle.demand_spec.specs.Listed.{IsFormulaOf, AreArgumentsOf};
 
 use cell_values::{Addr, Int, TextId};
-use formula_trees::{Args, Fun, Op, Part, Reference, Sign, Tree, area_of, resolve};
+use formula_trees::{
+    Args, Fun, Kind, Op, Part, Reference, Sign, Tree, are_enough, area_of, kind_of, may_go_on,
+    resolve,
+};
 use std::alloc::{Allocator, Global};
 use std::process::Abort;
 
@@ -155,70 +158,30 @@ fn is_expression(tree: &Tree, at: Addr) -> bool
 }
 
 #[cycle(shape)]
-fn has_arguments(fun: Fun, n: u32, args: &Args, at: Addr) -> bool
+fn has_arguments(fun: Fun, n: usize, args: &Args, at: Addr) -> bool
     ensures { IsTrue result → HasArguments at fun n (exprs_of args.now) }
 {
     match args {
-        Args::End => is_enough(fun, n),
+        Args::End => are_enough(fun, n),
         Args::More(a, rest) => {
             let expression = is_expression(a, at);
             n < 4
-                && may_follow(fun, n)
-                && fits_kind(fun, n, a, at, expression)
+                && may_go_on(fun, n)
+                && is_of_kind(kind_of(fun, n), a, at, expression)
                 && has_arguments(fun, n + 1, rest, at)
         }
     }
 }
 
-fn is_enough(fun: Fun, n: u32) -> bool
-    ensures { result ≡ enough fun n }
-{
-    let least = match fun {
-        Fun::Index | Fun::VLookup | Fun::HLookup => 3,
-        Fun::If | Fun::Choose | Fun::IfError | Fun::Mod | Fun::Quotient | Fun::Match => 2,
-        _ => 1,
-    };
-    least <= n
-}
-
-fn may_follow(fun: Fun, n: u32) -> bool
-    ensures { result ≡ takes_more fun n }
-{
-    match fun {
-        Fun::Not | Fun::IsError | Fun::Abs => n < 1,
-        Fun::IfError | Fun::Mod | Fun::Quotient => n < 2,
-        Fun::If | Fun::Index | Fun::Match => n < 3,
-        Fun::VLookup | Fun::HLookup => n < 4,
-        _ => true,
-    }
-}
-
-fn fits_kind(fun: Fun, n: u32, tree: &Tree, at: Addr, expression: bool) -> bool
+fn is_of_kind(kind: Kind, tree: &Tree, at: Addr, expression: bool) -> bool
     requires { IsTrue expression → IsExpression at (expr_of tree.now) }
-    ensures { IsTrue result → OfKind at (kind_of fun n) (expr_of tree.now) (IsExpression at (expr_of tree.now)) }
+    ensures { IsTrue result → OfKind at kind (expr_of tree.now) (IsExpression at (expr_of tree.now)) }
 {
-    match n {
-        0 => match fun {
-            Fun::Sum | Fun::Min | Fun::Max | Fun::Count => is_many(tree, at, expression),
-            Fun::Index => is_place(tree, at),
-            _ => expression,
-        },
-        1 => match fun {
-            Fun::Sum | Fun::Min | Fun::Max | Fun::Count => is_many(tree, at, expression),
-            Fun::Match | Fun::VLookup | Fun::HLookup => is_place(tree, at),
-            _ => expression,
-        },
-        2 => match fun {
-            Fun::Sum | Fun::Min | Fun::Max | Fun::Count => is_many(tree, at, expression),
-            Fun::Match => is_exact(tree),
-            _ => expression,
-        },
-        3 => match fun {
-            Fun::Sum | Fun::Min | Fun::Max | Fun::Count => is_many(tree, at, expression),
-            Fun::VLookup | Fun::HLookup => is_exact(tree),
-            _ => expression,
-        },
-        _ => false,
+    match kind {
+        Kind::Plain => expression,
+        Kind::Place => is_place(tree, at),
+        Kind::Many => is_many(tree, at, expression),
+        Kind::Exact => is_exact(tree),
     }
 }
 
@@ -243,13 +206,12 @@ fn is_place(tree: &Tree, at: Addr) -> bool
     }
 }
 
-#[tactic(auto, unfolding(cell_values::specs::Areas::height, cell_values::specs::Areas::width))]
 fn is_range(first: &Reference, second: &Reference, at: Addr) -> bool
     ensures { IsTrue result → IsRange at first.now second.now }
 {
     match (first.sheet, second.sheet) {
         (None, None) => match area_of(first, second, at) {
-            Some(area) => area.bottom + 1 - area.top <= 4 && area.right + 1 - area.left <= 16,
+            Some(area) => area.rows() <= 4 && area.columns() <= 16,
             None => false,
         },
         _ => false,

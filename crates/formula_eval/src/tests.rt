@@ -2,14 +2,14 @@
 ghost use Rattle.std.specs.Prelude.{◌≡◌, ◌+◌, ◌≤◌, ◌++◌, ◌∷◌, [], IsTrue, length, option_map, option_copied};
 ghost use Rattle.cell_values.specs.Addresses.{IsBefore, IsOnSheet, same_addr};
 ghost use Rattle.cell_values.specs.Texts.{Texts as Bytes, IsTextOf};
-ghost use Rattle.builtin_functions.specs.Tables.{IsValueOf};
-ghost use Rattle.demand_spec.specs.Book.{cell_in};
-ghost use Rattle.demand_spec.specs.Listed.{content_of, contents, value_in, IsAfterAll, IsSoundAt, IsContentOf, AreCellsOf, IsFormulaOf};
+ghost use Rattle.cell_values.specs.Values.{IsValueOf};
+ghost use Rattle.cell_values.specs.Order.{addresses, entry_at, IsAfterAll};
+ghost use Rattle.demand_spec.specs.Listed.{content_of, contents, IsSoundAt, IsContentOf, AreCellsOf, IsFormulaOf};
 ghost use Rattle.demand_spec.specs.declared.Asked.TheVariants.{Needs};
 ghost use Rattle.formula_trees.specs.Expr.{expr_of};
 ghost use Rattle.formula_trees.specs.Sound.{IsSound};
 ghost use Rattle.shared_expressions.specs.Trees.{tree_at, depth};
-ghost use Rattle.formula_eval.specs.Told.{found_as, MeansValue};
+ghost use Rattle.formula_eval.specs.Evaluations.{found_as, MeansValue};
 ghost use Rattle.formula_eval.specs.Client.{book_of, look_on, Goes};
 
 use crate::spelled::{formula, is_sound};
@@ -114,12 +114,12 @@ impl<'a> Sheet<'a> {
 }
 
 impl<'a> Known for Sheet<'a> {
-    ghost use Rattle.demand_spec.specs.Listed.{value_in};
+    ghost use Rattle.cell_values.specs.Order.{entry_at};
     ghost use Rattle.formula_eval.specs.Client.{book_of};
 
     ghost book = { λ s. book_of s };
 
-    ghost values = { λ s. value_in s.told };
+    ghost values = { λ s. entry_at s.told };
 
     ghost looks = { λ s. s.looks };
 
@@ -136,7 +136,7 @@ fn is_same(a: Addr, b: Addr) -> bool
 }
 
 fn find(cells: &[(Addr, Cell)], at: Addr) -> Option<&Cell>
-    ensures { option_map content_of (option_copied result) ≡ cell_in (contents cells.now) at }
+    ensures { option_map content_of (option_copied result) ≡ entry_at (contents cells.now) at }
 {
     match cells {
         [] => None,
@@ -151,7 +151,7 @@ fn find(cells: &[(Addr, Cell)], at: Addr) -> Option<&Cell>
 }
 
 fn told_of(told: &[(Addr, Value)], at: Addr) -> Option<Value>
-    ensures { result ≡ value_in told.now at }
+    ensures { result ≡ entry_at told.now at }
 {
     match told {
         [] => None,
@@ -208,12 +208,12 @@ fn is_cell(cell: &Cell, at: Addr, text: TextId) -> bool
 /// A cell behind all others of a plain book.
 #[tactic(auto, using(demand_spec::proofs::Small::cells_push))]
 fn put(rt: &impl Abort, book: &mut PlainBook, texts: &Texts, text: TextId, at: Addr, cell: Cell)
-    requires after { IsAfterAll at book.old }
+    requires after { IsAfterAll at (addresses book.old) }
     requires cells { AreCellsOf texts.now book.old }
     requires text { IsTextOf texts.now text }
     requires row { at.row ≤ 65536 }
     ensures cells { AreCellsOf texts.now book.new }
-    ensures after { (next : Addr) → IsBefore at next → IsAfterAll next book.new }
+    ensures after { (next : Addr) → IsBefore at next → IsAfterAll next (addresses book.new) }
 {
     assert!(rt; is_cell(&cell, at, text));
     assert!(rt; 1 <= at.row && 1 <= at.col && at.col <= 256);
@@ -221,11 +221,12 @@ fn put(rt: &impl Abort, book: &mut PlainBook, texts: &Texts, text: TextId, at: A
 }
 
 fn add(rt: &impl Abort, book: &mut PlainBook, at: Addr, cell: Cell)
-    requires after { IsAfterAll at book.old }
+    requires after { IsAfterAll at (addresses book.old) }
     requires on_sheet { IsOnSheet at }
     requires sound { IsSoundAt at (content_of cell) }
     ensures { book.new ≡ book.old ++ (at, content_of cell) ∷ [] }
 {
+    assert!(rt; !book.is_full());
     book.push(at, cell).expect(rt, "memory");
 }
 

@@ -1,5 +1,4 @@
-use Rattle.std.proofs.Common.{sym, ap, ◌∙◌, subst}
-use Rattle.builtin_functions.specs.Tables.{unary_value, binary_value}
+use Rattle.std.proofs.Common.{sym, subst}
 use Rattle.shared_expressions.specs.Trees.{tree_at}
 use Rattle.formula_eval.specs.declared.work.Step.{Step}
 use Rattle.formula_eval.specs.declared.work.Work.TheVariants.{First, Second}
@@ -9,8 +8,8 @@ use Rattle.formula_eval.proofs.machine.go_on.Goals as goal
 
 pub returns-in-Unary-First-clause-goes : goal.returns-in-Unary-First-clause-goes
 returns-in-Unary-First-clause-goes c =
-    subst (λ w. GoesOn c.args.pool.now c.args.texts.now c.args.at c.args.id w c.args.v c.args.frames.now.frames (Step.Give c.unary.result) c.args.frames.now.frames) (sym c.in-Unary-First.is-1)
-    (subst (λ z. GoesOn c.args.pool.now c.args.texts.now c.args.at c.args.id First c.args.v c.args.frames.now.frames (Step.Give z) c.args.frames.now.frames) (sym (c.unary.ensures ∙ ap (λ z. unary_value z c.args.v) c.sign_of.ensures))
+    subst (λ w. GoesOn c.args.pool.now c.args.texts.now c.args.at c.args.id w c.args.v c.args.frames.now.frames (Step.Give c.sign_value.result) c.args.frames.now.frames) (sym c.in-Unary-First.is-1)
+    (subst (λ z. GoesOn c.args.pool.now c.args.texts.now c.args.at c.args.id First c.args.v c.args.frames.now.frames (Step.Give z) c.args.frames.now.frames) (sym c.sign_value.ensures)
     (go_unary c.args.pool.now c.args.texts.now c.args.at c.args.id c.in-Unary-First.sign c.args.v c.args.frames.now.frames c.in-Unary-First.ensures))
 
 pub returns-in-false-clause-goes : goal.returns-in-false-clause-goes
@@ -21,6 +20,6 @@ returns-in-false-clause-goes c =
 pub returns-in-Binary-Second-clause-goes : goal.returns-in-Binary-Second-clause-goes
 returns-in-Binary-Second-clause-goes c =
     let fits : IsOperand c.args.texts.now c.in-Binary-Second.x = subst (WorkFits c.args.texts.now c.args.at (tree_at c.args.pool.now c.args.id)) c.in-Binary-Second.is-1 c.requires.work in
-    subst (λ w. GoesOn c.args.pool.now c.args.texts.now c.args.at c.args.id w c.args.v c.args.frames.now.frames (Step.Give c.binary.result) c.args.frames.now.frames) (sym c.in-Binary-Second.is-1)
-    (subst (λ z. GoesOn c.args.pool.now c.args.texts.now c.args.at c.args.id (Second c.in-Binary-Second.x) c.args.v c.args.frames.now.frames (Step.Give z) c.args.frames.now.frames) (sym (c.binary.ensures ∙ ap (λ z. binary_value c.args.texts.now z c.in-Binary-Second.x c.args.v) c.op_of.ensures))
+    subst (λ w. GoesOn c.args.pool.now c.args.texts.now c.args.at c.args.id w c.args.v c.args.frames.now.frames (Step.Give c.operator_value.result) c.args.frames.now.frames) (sym c.in-Binary-Second.is-1)
+    (subst (λ z. GoesOn c.args.pool.now c.args.texts.now c.args.at c.args.id (Second c.in-Binary-Second.x) c.args.v c.args.frames.now.frames (Step.Give z) c.args.frames.now.frames) (sym c.operator_value.ensures)
     (go_right c.args.pool.now c.args.texts.now c.args.at c.args.id c.in-Binary-Second.op c.in-Binary-Second.x c.args.v c.args.frames.now.frames c.in-Binary-Second.ensures fits))

@@ -3,7 +3,7 @@ use Rattle.cell_values.specs.declared.address.Addr.{Addr}
 use Rattle.demand_spec.specs.declared.Asked.{Asked}
 use Rattle.demand_spec.specs.Book.{look}
 use Rattle.formula_eval.specs.Machine.{Fits}
-use Rattle.formula_eval.specs.Told.{Advances, Turns}
+use Rattle.formula_eval.specs.Evaluations.{Advances, Turns}
 use Rattle.formula_eval.proofs.Turns.{along_none, along_more, along_ends}
 use Rattle.formula_eval.proofs.machine.run.Goals as goal
 

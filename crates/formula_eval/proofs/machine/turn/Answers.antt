@@ -1,10 +1,10 @@
 use Rattle.std.proofs.Common.{sym, subst, arith}
 use Rattle.cell_values.specs.declared.address.Addr.{Addr}
-use Rattle.builtin_functions.specs.Tables.{IsValueOf}
+use Rattle.cell_values.specs.Values.{IsValueOf}
 use Rattle.demand_spec.specs.declared.Asked.{Asked}
 use Rattle.demand_spec.specs.Book.{look}
 use Rattle.formula_eval.specs.declared.work.Step.{Step}
-use Rattle.formula_eval.specs.Told.{Advances}
+use Rattle.formula_eval.specs.Evaluations.{Advances}
 use Rattle.formula_eval.proofs.Turns.{advance_eval, advance_give, advance_look, fits_eval, fits_look, fits_value, fits_top}
 use Rattle.formula_eval.proofs.machine.turn.Goals as goal
 

@@ -3,7 +3,7 @@ use Rattle.demand_spec.specs.Book.{look}
 use Rattle.demand_spec.specs.Formula.{plan}
 use Rattle.shared_expressions.specs.Trees.{tree_at, depth}
 use Rattle.formula_eval.specs.Laws.{IsKept}
-use Rattle.formula_eval.specs.Told.{Answered, Stands}
+use Rattle.formula_eval.specs.Evaluations.{Answered, Stands}
 use Rattle.formula_eval.specs.Client.{Sight, book_of, look_on}
 use Rattle.formula_eval.proofs.Turns.{stands_grows, stands_ready}
 use Rattle.formula_eval.proofs.Client.{kept_push}

@@ -1,4 +1,5 @@
-use Rattle.demand_spec.specs.Listed.{AreCellsOf, IsAfterAll}
+use Rattle.cell_values.specs.Order.{IsAfterAll}
+use Rattle.demand_spec.specs.Listed.{AreCellsOf}
 use Rattle.formula_eval.proofs.tests.plain_book.Given as goal
 
 abbrev pub invariant-loop-held : goal.invariant-loop-held

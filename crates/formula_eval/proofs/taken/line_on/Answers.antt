@@ -1,9 +1,0 @@
-use Rattle.std.proofs.Common.{◌≡◌, ◌∙◌, rules, to_z, of_z, w64}
-use Rattle.formula_eval.specs.Machine.{index_below}
-use Rattle.formula_eval.proofs.Searches.{line_goes}
-use Rattle.formula_eval.proofs.taken.line_on.Goals as goal
-
-pub returns-in-Some-index_below-clause-goes : goal.returns-in-Some-index_below-clause-goes
-returns-in-Some-index_below-clause-goes c =
-    let back : to_z w64 (of_z w64 c.in-Some.j) ≡ c.in-Some.j = search rules in
-    line_goes c.args.pool.now c.args.texts.now c.args.at c.args.id c.args.fun c.args.x c.args.v c.in-Some.j c.in-Cells.area c.in-Some-index_below.m c.args.frames.now.frames c.lookup_on.result c.lookup_on.new.frames.frames c.requires.call c.requires.lookup c.requires.line.1 c.in-Some.ensures c.in-Cells.ensures.same (c.in-Some-index_below.ensures.same ∙ (λ i. index_below (c.across.ensures.same i) (back i))) (c.lookup_on.ensures.goes c.args.texts.now c.requires.key)
