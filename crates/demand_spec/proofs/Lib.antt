@@ -6,7 +6,7 @@ pub mod Same
 pub mod Local
 pub mod Walks
 pub mod Ordered
-pub mod Lookups
+pub mod KnownValues
 pub mod Asks
 pub mod Texts
 pub mod Areas

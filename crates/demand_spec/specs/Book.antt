@@ -27,15 +27,19 @@ pub record Book : Type 0 where
   pub texts : Texts
 
 abbrev pub formula_of : Option Content → Option Expr
+formula_of (Some (Number n)) = None
+formula_of (Some (Text t)) = None
+formula_of (Some (Truth b)) = None
 formula_of (Some (Formula t)) = Some t
-formula_of _ = None
+formula_of None = None
 
 -- the value of a cell without a formula
 abbrev pub own_of : Option Content → Value
 own_of (Some (Number n)) = Value.Number n
 own_of (Some (Text t)) = Value.Text t
 own_of (Some (Truth b)) = Value.Bool b
-own_of _ = Value.Blank
+own_of (Some (Formula t)) = Value.Blank
+own_of None = Value.Blank
 
 unfoldable pub formula_at : Book → Addr → Option Expr
 formula_at b a = formula_of (entry_at b.cells a)
@@ -84,8 +88,10 @@ rounds b zero = λ c. None
 rounds b (suc k) = round b (rounds b k)
 
 abbrev pub with_formula : Addr → Content → List Addr → List Addr
+with_formula a (Number n) rest = rest
+with_formula a (Text t) rest = rest
+with_formula a (Truth b) rest = rest
 with_formula a (Formula t) rest = a ∷ rest
-with_formula a _ rest = rest
 
 abbrev pub formulas_in : List (Addr × Content) → List Addr
 formulas_in [] = []

@@ -15,8 +15,8 @@ use Rattle.builtin_functions.specs.Tables.{unary_value, binary_value}
 use Rattle.cell_values.specs.Values.{IsValueOf, as_number, is_error}
 use Rattle.demand_spec.specs.declared.Asked.{Asked}
 use Rattle.demand_spec.specs.declared.Asked.TheVariants.{Val, Needs}
-use Rattle.demand_spec.specs.declared.given.Argument.{Argument}
-use Rattle.demand_spec.specs.declared.given.Given.{Given}
+use Rattle.demand_spec.specs.declared.arguments.Argument.{Argument}
+use Rattle.demand_spec.specs.declared.arguments.Given.{Given}
 use Rattle.demand_spec.specs.Asks.{on_with, and_on, any_value, value_or_end, condition_or_end, number_or_end, if_error, index_steps, match_steps}
 use Rattle.demand_spec.specs.Formula.{from_one, operator_value, sign_value}
 use Rattle.demand_spec.specs.Stage.{Sight, look_on, ask_on}

@@ -9,10 +9,10 @@ ghost use Rattle.formula_trees.specs.Expr.{expr_of, exprs_of, Call};
 ghost use Rattle.formula_trees.specs.Mentions.{HasArea};
 
 use crate::Asked;
+use crate::arguments::{Argument, Given, if_then, index_of, operator_of_two, sign_of_one};
 use crate::calls::{call_abs, call_if, call_if_error, call_is_error, call_not, call_two};
-use crate::ends::fails;
-use crate::given::{Argument, Given, if_then, index_of, operator_of_two, sign_of_one};
-use crate::stage::Stage;
+use crate::context::Stage;
+use crate::outcomes::fails;
 use builtin_functions::{FoldKind, Op2};
 use cell_values::{Addr, Code, Int, Value};
 use formula_trees::{Args, Fun, Tree, place_of, resolve};

@@ -80,7 +80,7 @@ impl PlainBook {
             Some(Cell::Number(n)) => Value::Number(*n),
             Some(Cell::Text(t)) => Value::Text(*t),
             Some(Cell::Bool(b)) => Value::Bool(*b),
-            _ => Value::Blank,
+            Some(Cell::Formula(_)) | None => Value::Blank,
         }
     }
 

@@ -4,9 +4,9 @@ ghost use Rattle.demand_spec.specs.Asks.{v_lookup_steps, h_lookup_steps};
 ghost use Rattle.demand_spec.specs.Given.{AreGivenOf, HaveAreas, if_rule, not_rule, if_error_rule, is_error_rule, abs_rule, two_rule, index_rule, match_rule, lookup_rule};
 
 use crate::Asked;
-use crate::ends::{answer, fails, no_error};
-use crate::given::{Given, if_error_of, if_then, is_error_of, not_of};
-use crate::stage::Stage;
+use crate::arguments::{Given, if_error_of, if_then, is_error_of, not_of};
+use crate::context::Stage;
+use crate::outcomes::{answer, fails, no_error};
 use builtin_functions::{Op2, Sign2, binary, unary};
 use cell_values::{Code, Texts, Value};
 

@@ -7,8 +7,8 @@ ghost use Rattle.demand_spec.specs.Formula.{is_found};
 ghost use Rattle.formula_trees.specs.Mentions.{HasArea};
 
 use crate::Asked;
-use crate::ends::{any_value, fails, take};
-use crate::stage::Stage;
+use crate::context::Stage;
+use crate::outcomes::{any_value, fails, take};
 use builtin_functions::FoldKind;
 use builtin_functions::operators::same;
 use cell_values::{Area, Code, Int, Texts, Value};
@@ -23,7 +23,7 @@ fn is_found(key: Value, value: Value, texts: &Texts) -> bool
 {
     match value {
         Value::Error(_) | Value::Blank => false,
-        _ => same(value, key, texts),
+        Value::Number(_) | Value::Text(_) | Value::Bool(_) => same(value, key, texts),
     }
 }
 

@@ -7,26 +7,26 @@ ghost use Rattle.demand_spec.specs.Results.{ShowsOwn, ShowsItsTexts, NeedsAreLac
 ghost use Rattle.demand_spec.specs.Edits.{CellsAreLookups, ListsAreMembers, EditApplies, AppliedOnly, TooLargeByLength, PendingListed, PendingListIsClosed, AllStayPending};
 ghost use Rattle.demand_spec.specs.Recursion.{LiteralGives, ReferenceGives, SignGives, OperatorGives, ModGives, QuotientGives, AbsGives, IfGives, ShortIfGives, AndGives, OrGives, NoneGive, NotGives, IfErrorGives, IsErrorGives, ChooseGives, FoldGives, FoldEnds, IndexGives, MatchGives, VLookupGives, HLookupGives};
 
+mod all_rounds;
+mod arguments;
 mod ask;
 pub mod book;
 mod calls;
 mod cells;
-mod ends;
-mod given;
+mod context;
+mod lookups;
 pub mod operators;
-pub mod slow;
-mod stage;
-mod steps;
+mod outcomes;
+pub mod shown_cells;
 #[cfg(test)]
 mod tests;
 pub mod view;
-mod whole;
 
 pub use book::PlainBook;
 use cell_values::{Addr, Int, TextId, Value};
 use formula_trees::Tree;
 pub use operators::{operator_value, sign_value};
-pub use slow::slow_shown;
+pub use shown_cells::slow_shown;
 pub use view::{BookView, Results};
 
 /// What a cell holds.

@@ -7,8 +7,8 @@ ghost use Rattle.cell_values.specs.Order.{IsAfterAll, addresses};
 ghost use Rattle.formula_trees.specs.Expr.{expr_of, exprs_of, Binary, Call, End, More};
 ghost use Rattle.formula_trees.specs.Sound.{IsSound};
 
-use crate::stage::Stage;
-use crate::whole::finish;
+use crate::all_rounds::finish;
+use crate::context::Stage;
 use crate::{Asked, Cell, PlainBook, slow_shown};
 use cell_values::{Addr, Code, Int, Shown, TextId, Texts, Value};
 use formula_trees::{Args, Fun, Op, Part, Reference, Sign, Tree};

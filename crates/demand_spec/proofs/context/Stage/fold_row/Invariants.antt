@@ -1,0 +1,8 @@
+use Rattle.std.proofs.Common.{◌≡◌, ◌-◌, map}
+use Rattle.cell_values.specs.Areas.{numbers_from, width, cell_of, row_of}
+use Rattle.demand_spec.specs.Asks.{fold_looks}
+use Rattle.demand_spec.specs.Stage.{look_on}
+use Rattle.demand_spec.proofs.context.Stage.fold_row.Given as goal
+
+abbrev pub invariant-loop-j : goal.invariant-loop-j
+invariant-loop-j l = fold_looks (look_on l.self) l.kind l.total (map (cell_of l.area l.i) (numbers_from l.j (width l.area - l.j))) ≡ fold_looks (look_on l.self) l.kind l.fn.total (row_of l.area l.i)

@@ -1,5 +1,0 @@
-use Rattle.demand_spec.proofs.Lookups.{put_is}
-use Rattle.demand_spec.proofs.whole.put_value.Goals as goal
-
-pub returns : goal.returns
-returns c = put_is c.args.known.now.entries c.insert.new.self.entries c.args.at c.args.value c.in_ok-insert.ensures.updates.0
