@@ -1,11 +1,11 @@
 -- Folds and searches over the rows of an area.
-use Rattle.std.proofs.Common.{◌≡◌, ℕ, zero, suc, ◌+◌, ◌-◌, ◌<◌, ◌≤◌, Bool, true, false, cond, Option, Some, None, Result, Ok, Err, List, [], ◌∷◌, ◌++◌, length, map, flat_map, refl, sym, ap, ◌∙◌, arith}
+use Rattle.std.proofs.Common.{◌≡◌, ℕ, suc, ◌+◌, ◌-◌, ◌<◌, ◌≤◌, Bool, true, false, cond, Option, Some, None, Result, Ok, Err, List, [], ◌∷◌, ◌++◌, length, flat_map, refl, ap, ◌∙◌, arith}
 use Rattle.std.proofs.lemmas.List.{length-map}
 use Rattle.cell_values.specs.declared.address.Addr.{Addr}
 use Rattle.cell_values.specs.declared.address.Area.{Area}
 use Rattle.cell_values.specs.declared.values.Code.{Code}
 use Rattle.cell_values.specs.declared.values.Value.{Value}
-use Rattle.cell_values.specs.Areas.{height, width, cell_of, numbers_from, row_of}
+use Rattle.cell_values.specs.Areas.{width, cell_of, numbers_from, row_of}
 use Rattle.cell_values.specs.Texts.{Texts}
 use Rattle.builtin_functions.specs.declared.folds.FoldKind.{FoldKind}
 use Rattle.builtin_functions.specs.Folds.{Total, taken}

@@ -1,10 +1,10 @@
 -- `ask` as a plain recursion on the formula.
-use Rattle.std.proofs.Common.{ℕ, zero, suc, arith, pos, negsuc, nat_lt, not, ◌+◌, ◌-◌, ◌<◌, ◌≤◌, ℤ, List, [], ◌∷◌, ◌++◌, flat_map, ◌≡◌, Bool, true, false, cond, Option, Some, None, Result, Ok, Err, refl, sym, ap, ◌∙◌, IsFalse}
+use Rattle.std.proofs.Common.{ℕ, zero, suc, pos, negsuc, nat_lt, not, ℤ, List, [], ◌∷◌, ◌≡◌, Bool, true, false, cond, Option, Some, None, Result, Ok, Err, refl, sym, ap, ◌∙◌, IsFalse}
 use Rattle.cell_values.specs.declared.address.Addr.{Addr}
 use Rattle.cell_values.specs.declared.address.Area.{Area}
 use Rattle.cell_values.specs.declared.values.Code.{Code}
 use Rattle.cell_values.specs.declared.values.Value.{Value}
-use Rattle.cell_values.specs.Areas.{height, width, cell_of, numbers_from, row_of, column_of, walk}
+use Rattle.cell_values.specs.Areas.{height, width, cell_of, row_of, column_of, walk}
 use Rattle.cell_values.specs.Texts.{Texts}
 use Rattle.formula_trees.specs.declared.tree.Fun.{Fun}
 use Rattle.formula_trees.specs.declared.tree.Op.{Op}
@@ -21,7 +21,7 @@ use Rattle.cell_values.specs.Values.{as_number, is_error}
 use Rattle.builtin_functions.specs.Folds.{Total, taken}
 use Rattle.demand_spec.specs.declared.Asked.{Asked}
 use Rattle.demand_spec.specs.declared.Asked.TheVariants.{Val, Needs}
-use Rattle.demand_spec.specs.Plan.{Plan, Give, Demand, and_then, after, run}
+use Rattle.demand_spec.specs.Plan.{Plan, Give, Demand, after, run}
 use Rattle.demand_spec.specs.Formula.{fails, unless_error, value_of, or_fail, condition_of, if_number, if_cells, if_up_to, and_plan, or_plan, from_one, chosen, go_on, fold_cells, fold_argument, fold_plan, is_found, search_plan, demand_of, operator_value, sign_value, value_at, plan, arguments}
 use Rattle.demand_spec.specs.Book.{Book, Known, look, ask}
 use Rattle.demand_spec.specs.Asks.{answer_of, ask_two, index_steps, match_steps, v_lookup_steps, h_lookup_steps, on_with, and_on, any_value, value_or_end, or_fails, condition_or_end, number_or_end, cells_or_end, up_to_or_end, found_or_end, if_error, argument_at, ask_argument, ask_chosen, fold_looks, fold_part, ask_fold, search_looks}

@@ -1,12 +1,10 @@
 -- Known values in an ordered map.
 use Rattle.cell_values.proofs.Order.{same_cmp, lookup_is}
-use Rattle.std.proofs.Common.{◌≡◌, ℕ, cond, ◌&&◌, List, [], ◌∷◌, eqb, nat_cmp, is_eq, Ordering, Less, Equal, Greater, Some, refl, sym, ◌∙◌, arith}
-use Rattle.std.specs.Ordering.{ordering_then}
+use Rattle.std.proofs.Common.{◌≡◌, cond, List, is_eq, Some, sym, ◌∙◌}
 use Rattle.std.specs.Map.{lookup}
 use Rattle.cell_values.specs.contracts.address.AddrOrd.TheImpl as addr_ord
 use Rattle.cell_values.specs.declared.address.Addr.{Addr}
 use Rattle.cell_values.specs.declared.values.Value.{Value}
-use Rattle.cell_values.specs.Addresses.{same_addr}
 use Rattle.cell_values.specs.Order.{entry_at}
 use Rattle.demand_spec.specs.Rounds.{put}
 

@@ -1,6 +1,6 @@
 -- What rounds over a listed book know, and what its cells show.
-use Rattle.std.proofs.Common.{◌≡◌, ℕ, zero, suc, ◌+◌, ◌-◌, ◌<◌, ◌≤◌, Bool, true, false, cond, not, ◌&&◌, ◌||◌, eqb, ◌⊎◌, inl, inr, List, [], ◌∷◌, length, get_or, refl, sym, ap, ◌∙◌, subst, Option, Some, None, IsSome, is_some, option_and_then, Result, Ok, Err, IfOk, arith}
-use Rattle.std.proofs.lemmas.Bool.{cond-true, cond-false, false_from_ne_true, cases_Bool}
+use Rattle.std.proofs.Common.{◌≡◌, ℕ, zero, suc, ◌+◌, ◌-◌, ◌<◌, ◌≤◌, Bool, true, false, cond, ◌||◌, ◌⊎◌, inl, inr, List, [], ◌∷◌, length, get_or, refl, sym, ap, ◌∙◌, subst, Option, Some, None, IsSome, option_and_then, Result, Ok, Err, IfOk, arith}
+use Rattle.std.proofs.lemmas.Bool.{cond-true, cond-false, false_from_ne_true}
 use Rattle.std.specs.Option.{option_or}
 use Rattle.std.specs.declared.alloc.AllocError.{AllocError}
 use Rattle.cell_values.specs.declared.address.Addr.{Addr}
@@ -13,14 +13,14 @@ use Rattle.formula_trees.specs.declared.tree.Tree.{Tree}
 use Rattle.demand_spec.specs.declared.Cell.{Cell}
 use Rattle.demand_spec.specs.Book.{Book, Content, Known, formula_of, formula_at, ask_formula, value_given, ask_cell, round, rounds, with_formula, formulas_in, formulas, finished, need, follow, is_at, period, mark_from, shown}
 use Rattle.cell_values.specs.Order.{entry_at, InOrder, addresses}
-use Rattle.demand_spec.specs.Laws.{In, Distinct, PartOf}
+use Rattle.demand_spec.specs.Laws.{In, Distinct}
 use Rattle.demand_spec.specs.Listed.{content_of, contents}
 use Rattle.demand_spec.specs.Rounds.{put, put_given, given_at, round_from, is_new, adds}
 use Rattle.demand_spec.proofs.Rounds.{Ended, SameOn, ended_from, rounds_grow, rounds_stay}
 use Rattle.cell_values.proofs.Order.{same_addr-true, same_addr-refl, same_addr-sym}
 use Rattle.demand_spec.proofs.Cycles.{period_enough}
 use Rattle.demand_spec.specs.Stage.{Sight, book_of, book_with, known_of}
-use Rattle.demand_spec.proofs.Ordered.{IsBook, distinct_from_order, length-contents}
+use Rattle.demand_spec.proofs.Ordered.{IsBook, distinct_from_order}
 
 -- the value of a round where it gives one, else what was there
 first_of : Option Value → Option Value → Option Value

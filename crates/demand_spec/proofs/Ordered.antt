@@ -1,6 +1,6 @@
 -- A book in order has each address once, and stays in order where a later cell is put behind it.
 use Rattle.cell_values.proofs.Order.{never_before}
-use Rattle.std.proofs.Common.{◌≡◌, ◌↔◌, ℕ, suc, ◌+◌, ◌<◌, ◌≤◌, inl, inr, ⊎_elim, List, [], ◌∷◌, ◌++◌, length, length-append, nat_le, IsTrue, refl, sym, ap, ◌∙◌, subst, arith}
+use Rattle.std.proofs.Common.{◌≡◌, ◌↔◌, ℕ, suc, ◌+◌, ◌<◌, ◌≤◌, inl, inr, List, [], ◌∷◌, ◌++◌, length, length-append, nat_le, IsTrue, refl, sym, ap, ◌∙◌, subst, arith}
 use Rattle.std.proofs.lemmas.Bool.{leb-true, le-leb}
 use Rattle.cell_values.specs.declared.address.Addr.{Addr}
 use Rattle.demand_spec.specs.declared.Cell.{Cell}

@@ -7,19 +7,15 @@ use Rattle.formula_trees.specs.declared.tree.Fun.{Fun}
 use Rattle.formula_trees.specs.declared.tree.Op.{Op}
 use Rattle.formula_trees.specs.declared.tree.Sign.{Sign}
 use Rattle.formula_trees.specs.Expr.{Expr, Exprs, Unary, Binary, Call, End, More}
-use Rattle.formula_trees.specs.declared.place.Place.{Place}
-use Rattle.formula_trees.specs.declared.place.Place.TheVariants.{Nowhere, Bad, Cells}
 use Rattle.formula_trees.specs.Mentions.{place_of}
 use Rattle.builtin_functions.specs.declared.folds.FoldKind.{FoldKind}
 use Rattle.builtin_functions.specs.declared.operators.Op2.{Op2}
-use Rattle.builtin_functions.specs.declared.operators.Sign2.{Sign2}
 use Rattle.builtin_functions.specs.Folds.{Total}
 use Rattle.cell_values.specs.Values.{IsValueOf, as_number}
 use Rattle.demand_spec.specs.declared.Asked.{Asked}
 use Rattle.demand_spec.specs.declared.Asked.TheVariants.{Val, Needs}
-use Rattle.demand_spec.specs.declared.arguments.Argument.{Argument}
 use Rattle.demand_spec.specs.declared.arguments.Given.{Given}
-use Rattle.demand_spec.specs.Asks.{on_with, and_on, value_or_end, number_or_end, argument_at, ask_argument, ask_chosen, ask_fold, ask_two, fold_part, index_steps, v_lookup_steps, h_lookup_steps}
+use Rattle.demand_spec.specs.Asks.{on_with, and_on, value_or_end, number_or_end, argument_at, ask_chosen, ask_fold, ask_two, fold_part, v_lookup_steps, h_lookup_steps}
 use Rattle.demand_spec.specs.Formula.{from_one}
 use Rattle.demand_spec.specs.Given.{IsAnswerOf, argument_of, given_before, given_by, index_or_end, if_then, sign_of_one, operator_of_two, if_rule, not_rule, if_error_rule, is_error_rule, abs_rule, two_rule, index_rule, match_of, match_rule, lookup_of, lookup_rule}
 use Rattle.demand_spec.specs.Stage.{Sight, book_of, known_of, look_on, ask_on}

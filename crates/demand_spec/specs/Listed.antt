@@ -1,10 +1,9 @@
 -- Books and values as lists in order.
-use Rattle.std.specs.Prelude.{◌≡◌, Option, Some, None, cond, ◌<◌, length, List, [], ◌∷◌}
+use Rattle.std.specs.Prelude.{◌≡◌, Some, ◌<◌, length, List, [], ◌∷◌}
 use Rattle.cell_values.specs.declared.address.Addr.{Addr}
-use Rattle.cell_values.specs.declared.interned.TextId.{TextId}
 use Rattle.cell_values.specs.declared.values.Shown.{Shown}
 use Rattle.cell_values.specs.declared.values.Value.{Value}
-use Rattle.cell_values.specs.Addresses.{same_addr, IsBefore, IsOnSheet}
+use Rattle.cell_values.specs.Addresses.{IsOnSheet}
 use Rattle.cell_values.specs.Texts.{Texts, IsTextOf}
 use Rattle.formula_trees.specs.Expr.{Expr, Exprs, expr_of}
 use Rattle.formula_trees.specs.Sound.{IsSound}

@@ -1,4 +1,4 @@
-use Rattle.std.proofs.Common.{refl, ap}
+use Rattle.std.proofs.Common.{refl}
 use Rattle.demand_spec.proofs.Asks.{ask_if_three, ask_if_two, ask_and_more, ask_or_more, ask_not, ask_if_error, ask_is_error, ask_choose}
 use Rattle.demand_spec.proofs.law_conditions_recur.Goals as goal
 

@@ -1,4 +1,4 @@
-use Rattle.std.proofs.Common.{refl, ap}
+use Rattle.std.proofs.Common.{refl}
 use Rattle.demand_spec.proofs.Asks.{ask_fold_more}
 use Rattle.demand_spec.proofs.law_folds_recur.Goals as goal
 

@@ -1,4 +1,3 @@
-use Rattle.std.proofs.Common.{refl, ap}
 use Rattle.demand_spec.proofs.Asks.{ask_unary, ask_binary, ask_mod, ask_quotient, ask_abs, literal_gives, reference_gives}
 use Rattle.demand_spec.proofs.law_operators_recur.Goals as goal
 

@@ -1,4 +1,3 @@
-use Rattle.std.proofs.Common.{refl, ap}
 use Rattle.demand_spec.proofs.Asks.{ask_index, ask_match, ask_v_lookup, ask_h_lookup}
 use Rattle.demand_spec.proofs.law_searches_recur.Goals as goal
 

@@ -1,4 +1,4 @@
-use Rattle.std.proofs.Common.{◌≡◌, ◌+◌, ◌≤◌, ℕ, refl, sym, ap, ◌∙◌, false, length, rules, arith}
+use Rattle.std.proofs.Common.{◌≡◌, ◌+◌, ◌≤◌, refl, sym, ap, ◌∙◌, false, length, rules, arith}
 use Rattle.cell_values.specs.Order.{entry_at}
 use Rattle.demand_spec.specs.Stage.{book_with}
 use Rattle.demand_spec.proofs.Listed.{last_is_finished, all_rounds_finish, next_round_is}

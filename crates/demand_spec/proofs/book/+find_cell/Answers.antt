@@ -1,4 +1,4 @@
-use Rattle.std.proofs.Common.{◌≡◌, ◌<◌, ◌+◌, ◌/◌, length, get_or, sym, ap, ◌∙◌, subst, List, arith}
+use Rattle.std.proofs.Common.{◌<◌, ◌+◌, ◌/◌, length, get_or, sym, ap, ◌∙◌, subst, List, arith}
 use Rattle.std.proofs.lemmas.Grind.{common_steps}
 use Rattle.std.proofs.lemmas.List.{take_rest}
 use Rattle.cell_values.specs.declared.address.Addr.{Addr}

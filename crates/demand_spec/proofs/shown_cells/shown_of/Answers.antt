@@ -1,4 +1,4 @@
-use Rattle.std.proofs.Common.{◌≡◌, Some, None, sym, ap, ◌∙◌, length}
+use Rattle.std.proofs.Common.{Some, None, sym, ap, ◌∙◌}
 use Rattle.demand_spec.specs.Book.{period}
 use Rattle.demand_spec.specs.Stage.{book_of, known_of}
 use Rattle.demand_spec.proofs.Listed.{shown_value, shown_mark}

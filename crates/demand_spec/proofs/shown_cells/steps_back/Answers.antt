@@ -1,6 +1,6 @@
 use Rattle.std.proofs.Common.{sym, ◌∙◌}
 use Rattle.demand_spec.specs.Stage.{book_of}
-use Rattle.demand_spec.proofs.Listed.{found_back, not_back}
+use Rattle.demand_spec.proofs.Listed.{found_back}
 use Rattle.demand_spec.proofs.shown_cells.steps_back.Goals as goal
 
 pub returns-then-is_back : goal.returns-then-is_back

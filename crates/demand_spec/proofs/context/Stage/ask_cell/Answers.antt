@@ -1,5 +1,4 @@
 use Rattle.std.proofs.Common.{Some, sym, ap, ◌∙◌, subst}
-use Rattle.cell_values.specs.Texts.{Texts}
 use Rattle.formula_trees.specs.Expr.{expr_of}
 use Rattle.demand_spec.specs.Book.{Content}
 use Rattle.demand_spec.specs.Listed.{content_of, IsFormulaOf}
