@@ -28,7 +28,8 @@ use Rattle.formula_tokens.specs.Lexemes.{Other, reference, plain_word}
 use Rattle.formula_grammar.specs.Printed.{dollar, cell_or_error}
 use Rattle.formula_grammar.specs.Syntax.{part}
 use Rattle.formula_tokens.proofs.Lexed.{lexemes_in}
-use Rattle.formula_tokens.proofs.LexedWords.{closes, opens, is_word, begins_not, closes_words, closes_call, run_leads, run_behind, plain_lexeme}
+use Rattle.formula_tokens.specs.Spelling.{is_word}
+use Rattle.formula_tokens.proofs.LexedWords.{closes, opens, begins_not, closes_words, closes_call, run_leads, run_behind, plain_lexeme}
 
 abbrev pub is_absolute : Part → Bool
 is_absolute (Part.At n) = true

@@ -11,7 +11,7 @@ use Rattle.formula_trees.specs.declared.tree.Sign.{Sign}
 use Rattle.formula_trees.specs.Expr.{Expr, Exprs, Unary, Binary, Call, End, More}
 use Rattle.formula_tokens.specs.declared.token.Token.{Token}
 use Rattle.formula_tokens.specs.Lexemes.{Lexeme, Other}
-use Rattle.formula_tokens.specs.Spelling.{op_text}
+use Rattle.formula_tokens.specs.Spelling.{op_text, ends_operator, ends_before}
 use Rattle.formula_tokens.specs.Tokens.{token_of, HoldsLiteral}
 use Rattle.formula_tokens.specs.Words.{function_name}
 use Rattle.formula_grammar.specs.Printed.{sign_text}
@@ -19,7 +19,7 @@ use Rattle.formula_grammar.specs.Syntax.{Mark, quiet, node, opening, signing, si
 use Rattle.formula_grammar.specs.Fault.{own_fault, named_fault, total_nodes}
 use Rattle.formula_tokens.proofs.Lexed.{lexemes_in}
 use Rattle.formula_tokens.proofs.LexedWords.{closes, opens, function_lexeme}
-use Rattle.formula_tokens.proofs.LexedSigns.{sign_ends, op_lexeme}
+use Rattle.formula_tokens.proofs.LexedSigns.{op_lexeme}
 
 -- a part that means a tree: it may stand, its text is read as its tokens, the texts hold its literals, the tokens have no fault, and its marks are
 -- those of so many nodes and levels
@@ -61,24 +61,28 @@ op_closes Op.Le rest = refl
 op_closes Op.Gt rest = refl
 op_closes Op.Ge rest = refl
 
+ends_always : (rest : List ℕ) → ends_before (λ b. true) rest ≡ true
+ends_always [] = refl
+ends_always (b ∷ rest) = refl
+
 -- no operator that may follow goes on with what begins a part
-opens_ends : (o : Op) (rest : List ℕ) → opens rest ≡ true → sign_ends o rest ≡ true
+opens_ends : (o : Op) (rest : List ℕ) → opens rest ≡ true → ends_before (ends_operator o) rest ≡ true
 opens_ends Op.Lt [] h = cc
 opens_ends Op.Lt (b ∷ rest) h = h
 opens_ends Op.Gt [] h = cc
 opens_ends Op.Gt (b ∷ rest) h = (and_parts (not (b == 61)) (not (b == 62)) h).0
-opens_ends Op.Add rest h = refl
-opens_ends Op.Sub rest h = refl
-opens_ends Op.Mul rest h = refl
-opens_ends Op.Div rest h = refl
-opens_ends Op.Eq rest h = refl
-opens_ends Op.Ne rest h = refl
-opens_ends Op.Le rest h = refl
-opens_ends Op.Ge rest h = refl
+opens_ends Op.Add rest h = ends_always rest
+opens_ends Op.Sub rest h = ends_always rest
+opens_ends Op.Mul rest h = ends_always rest
+opens_ends Op.Div rest h = ends_always rest
+opens_ends Op.Eq rest h = ends_always rest
+opens_ends Op.Ne rest h = ends_always rest
+opens_ends Op.Le rest h = ends_always rest
+opens_ends Op.Ge rest h = ends_always rest
 
 sign_lexeme : (names : List (List ℕ)) (s : Sign) (rest : List ℕ) → lexemes_in names 0 false (sign_text s ++ rest) ≡ Other (Token.Operator (sign_op s)) ∷ lexemes_in names 0 false rest
-sign_lexeme names Sign.Minus rest = op_lexeme names false Op.Sub rest refl
-sign_lexeme names Sign.Plus rest = op_lexeme names false Op.Add rest refl
+sign_lexeme names Sign.Minus rest = op_lexeme names false Op.Sub rest (ends_always rest)
+sign_lexeme names Sign.Plus rest = op_lexeme names false Op.Add rest (ends_always rest)
 
 sign_opens : (s : Sign) (rest : List ℕ) → opens (sign_text s ++ rest) ≡ true
 sign_opens Sign.Minus rest = refl
