@@ -5,6 +5,8 @@ use Rattle.std.proofs.lemmas.Bool.{and_parts}
 use Rattle.std.specs.List.{AllByRecursion}
 use Rattle.std.proofs.lemmas.List.{append_assoc, append-nil, map-append}
 use Rattle.cell_values.specs.Texts.{Texts}
+use Rattle.cell_values.specs.declared.TheConstants.{MAX_RANGE_CELLS}
+use Rattle.formula_trees.specs.declared.TheConstants.{MAX_LEVELS}
 use Rattle.formula_trees.specs.declared.tree.Fun.{Fun}
 use Rattle.formula_trees.specs.declared.tree.Op.{Op}
 use Rattle.formula_trees.specs.declared.tree.Sign.{Sign}
@@ -34,8 +36,8 @@ pub record Part (names : List (List ℕ)) (ts : Texts) (T : Type 0) (tree : T) (
   pub known : AllByRecursion (λ t. own_fault t ≡ None) spelled
   pub inside : AllByRecursion (λ t. named_fault t ≡ None) spelled
   pub total : (d : ℕ) → total_nodes (marks d) ≡ count
-  pub low : (d : ℕ) → d + inner ≤ 32 → AllByRecursion (λ m. m.level ≤ 32) (marks d)
-  pub small : (d : ℕ) → AllByRecursion (λ m. m.cells ≤ 65536) (marks d)
+  pub low : (d : ℕ) → d + inner ≤ MAX_LEVELS → AllByRecursion (λ m. m.level ≤ MAX_LEVELS) (marks d)
+  pub small : (d : ℕ) → AllByRecursion (λ m. m.cells ≤ MAX_RANGE_CELLS) (marks d)
 
 pub all_join : {X : Type 0} (P : X → Type 0) (xs ys : List X) → AllByRecursion P xs → AllByRecursion P ys → AllByRecursion P (xs ++ ys)
 all_join P [] ys h k = k
