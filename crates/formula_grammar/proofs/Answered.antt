@@ -27,7 +27,7 @@ means names known at text spots (Ok tree) formula short e literals ok = record {
 means names known at text spots (Err x) formula short e literals ok = tt
 
 -- a text with a fault is refused for it
-pub refused : (names : List (List ℕ)) (known : Texts) (at : Addr) (text : List ℕ) (spots : List Spot) (r : Result Tree FormulaFault) → length text ≤ 1024 → spots ≡ spots_of names known text →
+pub refused : (names : List (List ℕ)) (known : Texts) (at : Addr) (text : List ℕ) (spots : List Spot) (r : Result Tree FormulaFault) → length text ≤ MAX_FORMULA_BYTES → spots ≡ spots_of names known text →
     IfOk r (λ tree. Reads at (tokens_of spots) (expr_of tree)) → IfErr r (IsFault spots (length text)) →
     (place : ℕ) (n : FaultKind) → HasFault names known text place n → MatchResult r (λ t. ⊥) (IsThisFault place n)
 refused names known at text spots r short e ok bad place n (inl h) = let long = h.0 in absurd (omega arith)

@@ -5,13 +5,15 @@ use Rattle.std.proofs.lemmas.Bool.{and_parts}
 use Rattle.std.specs.List.{AllByRecursion}
 use Rattle.std.proofs.lemmas.List.{append_assoc, append-nil, map-append}
 use Rattle.cell_values.specs.Texts.{Texts}
+use Rattle.cell_values.specs.declared.TheConstants.{MAX_RANGE_CELLS}
+use Rattle.formula_trees.specs.declared.TheConstants.{MAX_LEVELS}
 use Rattle.formula_trees.specs.declared.tree.Fun.{Fun}
 use Rattle.formula_trees.specs.declared.tree.Op.{Op}
 use Rattle.formula_trees.specs.declared.tree.Sign.{Sign}
 use Rattle.formula_trees.specs.Expr.{Expr, Exprs, Unary, Binary, Call, End, More}
 use Rattle.formula_tokens.specs.declared.token.Token.{Token}
 use Rattle.formula_tokens.specs.Lexemes.{Lexeme, Other}
-use Rattle.formula_tokens.specs.Spelling.{op_text}
+use Rattle.formula_tokens.specs.Spelling.{op_text, ends_operator, ends_before}
 use Rattle.formula_tokens.specs.Tokens.{token_of, HoldsLiteral}
 use Rattle.formula_tokens.specs.Words.{function_name}
 use Rattle.formula_grammar.specs.Printed.{sign_text}
@@ -19,7 +21,7 @@ use Rattle.formula_grammar.specs.Syntax.{Mark, quiet, node, opening, signing, si
 use Rattle.formula_grammar.specs.Fault.{own_fault, named_fault, total_nodes}
 use Rattle.formula_tokens.proofs.Lexed.{lexemes_in}
 use Rattle.formula_tokens.proofs.LexedWords.{closes, opens, function_lexeme}
-use Rattle.formula_tokens.proofs.LexedSigns.{sign_ends, op_lexeme}
+use Rattle.formula_tokens.proofs.LexedSigns.{op_lexeme}
 
 -- a part that means a tree: it may stand, its text is read as its tokens, the texts hold its literals, the tokens have no fault, and its marks are
 -- those of so many nodes and levels
@@ -34,8 +36,8 @@ pub record Part (names : List (List ℕ)) (ts : Texts) (T : Type 0) (tree : T) (
   pub known : AllByRecursion (λ t. own_fault t ≡ None) spelled
   pub inside : AllByRecursion (λ t. named_fault t ≡ None) spelled
   pub total : (d : ℕ) → total_nodes (marks d) ≡ count
-  pub low : (d : ℕ) → d + inner ≤ 32 → AllByRecursion (λ m. m.level ≤ 32) (marks d)
-  pub small : (d : ℕ) → AllByRecursion (λ m. m.cells ≤ 65536) (marks d)
+  pub low : (d : ℕ) → d + inner ≤ MAX_LEVELS → AllByRecursion (λ m. m.level ≤ MAX_LEVELS) (marks d)
+  pub small : (d : ℕ) → AllByRecursion (λ m. m.cells ≤ MAX_RANGE_CELLS) (marks d)
 
 pub all_join : {X : Type 0} (P : X → Type 0) (xs ys : List X) → AllByRecursion P xs → AllByRecursion P ys → AllByRecursion P (xs ++ ys)
 all_join P [] ys h k = k
@@ -61,24 +63,28 @@ op_closes Op.Le rest = refl
 op_closes Op.Gt rest = refl
 op_closes Op.Ge rest = refl
 
+ends_always : (rest : List ℕ) → ends_before (λ b. true) rest ≡ true
+ends_always [] = refl
+ends_always (b ∷ rest) = refl
+
 -- no operator that may follow goes on with what begins a part
-opens_ends : (o : Op) (rest : List ℕ) → opens rest ≡ true → sign_ends o rest ≡ true
+opens_ends : (o : Op) (rest : List ℕ) → opens rest ≡ true → ends_before (ends_operator o) rest ≡ true
 opens_ends Op.Lt [] h = cc
 opens_ends Op.Lt (b ∷ rest) h = h
 opens_ends Op.Gt [] h = cc
 opens_ends Op.Gt (b ∷ rest) h = (and_parts (not (b == 61)) (not (b == 62)) h).0
-opens_ends Op.Add rest h = refl
-opens_ends Op.Sub rest h = refl
-opens_ends Op.Mul rest h = refl
-opens_ends Op.Div rest h = refl
-opens_ends Op.Eq rest h = refl
-opens_ends Op.Ne rest h = refl
-opens_ends Op.Le rest h = refl
-opens_ends Op.Ge rest h = refl
+opens_ends Op.Add rest h = ends_always rest
+opens_ends Op.Sub rest h = ends_always rest
+opens_ends Op.Mul rest h = ends_always rest
+opens_ends Op.Div rest h = ends_always rest
+opens_ends Op.Eq rest h = ends_always rest
+opens_ends Op.Ne rest h = ends_always rest
+opens_ends Op.Le rest h = ends_always rest
+opens_ends Op.Ge rest h = ends_always rest
 
 sign_lexeme : (names : List (List ℕ)) (s : Sign) (rest : List ℕ) → lexemes_in names 0 false (sign_text s ++ rest) ≡ Other (Token.Operator (sign_op s)) ∷ lexemes_in names 0 false rest
-sign_lexeme names Sign.Minus rest = op_lexeme names false Op.Sub rest refl
-sign_lexeme names Sign.Plus rest = op_lexeme names false Op.Add rest refl
+sign_lexeme names Sign.Minus rest = op_lexeme names false Op.Sub rest (ends_always rest)
+sign_lexeme names Sign.Plus rest = op_lexeme names false Op.Add rest (ends_always rest)
 
 sign_opens : (s : Sign) (rest : List ℕ) → opens (sign_text s ++ rest) ≡ true
 sign_opens Sign.Minus rest = refl

@@ -9,6 +9,8 @@ use Rattle.cell_values.specs.declared.address.Addr.{Addr}
 use Rattle.cell_values.specs.Areas.{between_cells, height, width}
 use Rattle.cell_values.specs.Names.{AreSheetNames, is_good_name, prefix_text}
 use Rattle.cell_values.specs.Texts.{Texts}
+use Rattle.cell_values.specs.declared.TheConstants.{MAX_RANGE_CELLS}
+use Rattle.formula_trees.specs.declared.TheConstants.{MAX_LEVELS}
 use Rattle.formula_trees.specs.declared.tree.Reference.{Reference}
 use Rattle.formula_trees.specs.Expr.{Expr, Ref, Range}
 use Rattle.formula_trees.specs.References.{resolve, area_between}
@@ -64,11 +66,11 @@ target_total : (o : Option ℕ) (w : Word) → total_nodes (target_marks (target
 target_total None w = refl
 target_total (Some s) w = refl
 
-target_low : (o : Option ℕ) (w : Word) → AllByRecursion (λ m. m.level ≤ 32) (target_marks (target_of o w))
+target_low : (o : Option ℕ) (w : Word) → AllByRecursion (λ m. m.level ≤ MAX_LEVELS) (target_marks (target_of o w))
 target_low None w = (omega arith, tt)
 target_low (Some s) w = (omega arith, (omega arith, tt))
 
-target_small : (o : Option ℕ) (w : Word) → AllByRecursion (λ m. m.cells ≤ 65536) (target_marks (target_of o w))
+target_small : (o : Option ℕ) (w : Word) → AllByRecursion (λ m. m.cells ≤ MAX_RANGE_CELLS) (target_marks (target_of o w))
 target_small None w = (omega arith, tt)
 target_small (Some s) w = (omega arith, (omega arith, tt))
 
@@ -133,7 +135,7 @@ module _ (names : List (List ℕ)) (ts : Texts) (good : AreSheetNames names) whe
   }
 
   -- a range
-  area_part : (at : Addr) (r s : Reference) (a b : Addr) → Resolved at r a → Resolved at s b → r.sheet ≡ s.sheet → cells_between (word_of r a) (word_of s b) ≤ 65536 → SheetBelow (length names) r.sheet
+  area_part : (at : Addr) (r s : Reference) (a b : Addr) → Resolved at r a → Resolved at s b → r.sheet ≡ s.sheet → cells_between (word_of r a) (word_of s b) ≤ MAX_RANGE_CELLS → SheetBelow (length names) r.sheet
       → Part names ts Expr (Range r s) 1 0 ((prefix_of names r.sheet ++ cell_or_error r (Some a)) ++ (codes ":" ++ cell_or_error s (Some b))) (Unit {0}) (target_spelling (target_of r.sheet (word_of r a)) ++ Token.Colon ∷ Token.Reference (word_of s b) ∷ [])
       (λ d. target_marks (target_of r.sheet (word_of r a)) ++ quiet ∷ sized (cells_between (target_word (target_of r.sheet (word_of r a))) (word_of s b)) ∷ []) (Range (target_meaning at (target_of r.sheet (word_of r a))) (reference_at at (target_sheet (target_of r.sheet (word_of r a))) (word_of s b)))
   area_part at r s a b h k e small below =
@@ -179,7 +181,7 @@ module _ (names : List (List ℕ)) (ts : Texts) (good : AreSheetNames names) whe
       (w : Word) × (v : Word) × Part names ts Expr (Range r s) 1 0 ((prefix_of names r.sheet ++ cell_or_error r o) ++ (codes ":" ++ cell_or_error s q)) (Unit {0}) (target_spelling (target_of r.sheet w) ++ Token.Colon ∷ Token.Reference v ∷ [])
       (λ d. target_marks (target_of r.sheet w) ++ quiet ∷ sized (cells_between (target_word (target_of r.sheet w)) v) ∷ []) (Range (target_meaning at (target_of r.sheet w)) (reference_at at (target_sheet (target_of r.sheet w)) v))
 
-  few_cells : (a b : Addr) (r s : Reference) → height (between_cells a b) * width (between_cells a b) ≤ 65536 → cells_between (word_of r a) (word_of s b) ≤ 65536
+  few_cells : (a b : Addr) (r s : Reference) → height (between_cells a b) * width (between_cells a b) ≤ MAX_RANGE_CELLS → cells_between (word_of r a) (word_of s b) ≤ MAX_RANGE_CELLS
   unfolding height width
   few_cells a b r s h = h
 
@@ -187,7 +189,7 @@ module _ (names : List (List ℕ)) (ts : Texts) (good : AreSheetNames names) whe
   pub range_part : (at : Addr) (r s : Reference) → IsRange at r s → SheetBelow (length names) r.sheet → AreaPart at r s (resolve at r) (resolve at s)
   range_part at r s range below = by (resolve at r) (resolve at s) refl refl range.small
     where
-      by : (o q : Option Addr) → resolve at r ≡ o → resolve at s ≡ q → IsSomeAnd (area_between o q) (λ a. height a * width a ≤ 65536) → AreaPart at r s o q
+      by : (o q : Option Addr) → resolve at r ≡ o → resolve at s ≡ q → IsSomeAnd (area_between o q) (λ a. height a * width a ≤ MAX_RANGE_CELLS) → AreaPart at r s o q
       by None q e f h = absurd h
       by (Some a) None e f h = absurd h
       by (Some a) (Some b) e f h = (word_of r a, word_of s b, area_part at r s a b (resolved at r a e) (resolved at s b f) range.one_sheet (few_cells a b r s h) below)

@@ -17,6 +17,7 @@ use Rattle.cell_values.specs.Numbers.{fits}
 use Rattle.cell_values.specs.ShownText.{int_text, bool_text}
 use Rattle.cell_values.specs.Texts.{Texts, text_at}
 use Rattle.formula_trees.specs.Expr.{Expr, Number, Text, Truth, RefError}
+use Rattle.formula_trees.specs.declared.levels.TheConstants.{COMPARISON_LEVEL, SUM_LEVEL, TERM_LEVEL, SIGN_LEVEL, OPERAND_LEVEL}
 use Rattle.formula_trees.specs.Sound.{IsLiteral}
 use Rattle.formula_tokens.specs.declared.token.Literal.{Literal}
 use Rattle.formula_tokens.specs.declared.token.Token.{Token}
@@ -43,13 +44,13 @@ pub record Views (names : List (List ℕ)) (ts : Texts) (at : Addr) (e : Expr) (
   pub term : Term
   pub signed : Signed
   pub whole : Part names ts Expr e n i text (Fits true expression) (spelling expression) (marks expression) (meaning at expression)
-  pub first : Part names ts Expr e n (levels_in level 1 i) (text_in level 1 text) (Fits true expression) (spelling expression) (marks expression) (meaning at expression)
-  pub second : Part names ts Expr e n (levels_in level 2 i) (text_in level 2 text) (SumsFit true sums) (sums_spelling sums) (sums_marks sums) (sums_meaning at sums)
-  pub third : Part names ts Expr e n (levels_in level 3 i) (text_in level 3 text) (TermFits true term) (term_spelling term) (term_marks term) (term_meaning at term)
-  pub fourth : Part names ts Expr e n (levels_in level 4 i) (text_in level 4 text) (SignedFits true signed) (signed_spelling signed) (signed_marks signed) (signed_meaning at signed)
+  pub first : Part names ts Expr e n (levels_in level COMPARISON_LEVEL i) (text_in level COMPARISON_LEVEL text) (Fits true expression) (spelling expression) (marks expression) (meaning at expression)
+  pub second : Part names ts Expr e n (levels_in level SUM_LEVEL i) (text_in level SUM_LEVEL text) (SumsFit true sums) (sums_spelling sums) (sums_marks sums) (sums_meaning at sums)
+  pub third : Part names ts Expr e n (levels_in level TERM_LEVEL i) (text_in level TERM_LEVEL text) (TermFits true term) (term_spelling term) (term_marks term) (term_meaning at term)
+  pub fourth : Part names ts Expr e n (levels_in level SIGN_LEVEL i) (text_in level SIGN_LEVEL text) (SignedFits true signed) (signed_spelling signed) (signed_marks signed) (signed_meaning at signed)
 
 module _ (names : List (List ℕ)) (ts : Texts) (at : Addr) where
-  pub from_expression : (e : Expr) (n i : ℕ) (text : List ℕ) (x : Expression) → Part names ts Expr e n i text (Fits true x) (spelling x) (marks x) (meaning at x) → Views names ts at e n i 1 text
+  pub from_expression : (e : Expr) (n i : ℕ) (text : List ℕ) (x : Expression) → Part names ts Expr e n i text (Fits true x) (spelling x) (marks x) (meaning at x) → Views names ts at e n i COMPARISON_LEVEL text
   from_expression e n i text x p =
       let g = grouped names ts e n i text (Fits true x) (spelling x) (marks x) (meaning at x) p in
       record {
@@ -64,7 +65,7 @@ module _ (names : List (List ℕ)) (ts : Texts) (at : Addr) where
         fourth = g;
       }
 
-  pub from_sums : (e : Expr) (n i : ℕ) (text : List ℕ) (x : Sums) → Part names ts Expr e n i text (SumsFit true x) (sums_spelling x) (sums_marks x) (sums_meaning at x) → Views names ts at e n i 2 text
+  pub from_sums : (e : Expr) (n i : ℕ) (text : List ℕ) (x : Sums) → Part names ts Expr e n i text (SumsFit true x) (sums_spelling x) (sums_marks x) (sums_meaning at x) → Views names ts at e n i SUM_LEVEL text
   from_sums e n i text x p =
       let g = grouped names ts e n i text (SumsFit true x) (sums_spelling x) (sums_marks x) (sums_meaning at x) p in
       record {
@@ -79,7 +80,7 @@ module _ (names : List (List ℕ)) (ts : Texts) (at : Addr) where
         fourth = g;
       }
 
-  pub from_term : (e : Expr) (n i : ℕ) (text : List ℕ) (x : Term) → Part names ts Expr e n i text (TermFits true x) (term_spelling x) (term_marks x) (term_meaning at x) → Views names ts at e n i 3 text
+  pub from_term : (e : Expr) (n i : ℕ) (text : List ℕ) (x : Term) → Part names ts Expr e n i text (TermFits true x) (term_spelling x) (term_marks x) (term_meaning at x) → Views names ts at e n i TERM_LEVEL text
   from_term e n i text x p =
       let g = grouped names ts e n i text (TermFits true x) (term_spelling x) (term_marks x) (term_meaning at x) p in
       record {
@@ -94,7 +95,7 @@ module _ (names : List (List ℕ)) (ts : Texts) (at : Addr) where
         fourth = g;
       }
 
-  pub from_signed : (e : Expr) (n i : ℕ) (text : List ℕ) (x : Signed) → Part names ts Expr e n i text (SignedFits true x) (signed_spelling x) (signed_marks x) (signed_meaning at x) → Views names ts at e n i 4 text
+  pub from_signed : (e : Expr) (n i : ℕ) (text : List ℕ) (x : Signed) → Part names ts Expr e n i text (SignedFits true x) (signed_spelling x) (signed_marks x) (signed_meaning at x) → Views names ts at e n i SIGN_LEVEL text
   from_signed e n i text x p = record {
     expression = only_sum (only_term (only_signed x));
     sums = only_term (only_signed x);
@@ -107,7 +108,7 @@ module _ (names : List (List ℕ)) (ts : Texts) (at : Addr) where
     fourth = p;
   }
 
-  pub from_primary : (e : Expr) (n i : ℕ) (text : List ℕ) (x : Primary) → Part names ts Expr e n i text (PrimaryFits true x) (primary_spelling x) (primary_marks x) (primary_meaning at x) → Views names ts at e n i 5 text
+  pub from_primary : (e : Expr) (n i : ℕ) (text : List ℕ) (x : Primary) → Part names ts Expr e n i text (PrimaryFits true x) (primary_spelling x) (primary_marks x) (primary_meaning at x) → Views names ts at e n i OPERAND_LEVEL text
   from_primary e n i text x p = record {
     expression = only_sum (only_term (only_signed (plain x)));
     sums = only_term (only_signed (plain x));

@@ -14,6 +14,7 @@ use Rattle.formula_trees.specs.declared.functions.Kind.{Kind}
 use Rattle.formula_trees.specs.declared.functions.Kind.TheVariants.{Plain, Place, Many, Exact}
 use Rattle.formula_trees.specs.Functions.{kind_of, enough, takes_more}
 use Rattle.formula_trees.specs.SheetNumbers.{SheetsBelow, AllSheetsBelow}
+use Rattle.formula_trees.specs.declared.levels.TheConstants.{COMPARISON_LEVEL, SUM_LEVEL, TERM_LEVEL}
 use Rattle.formula_trees.specs.Sound.{IsLiteral, IsExpression, HasArguments, OfKind, nodes, nodes_of, levels, levels_of, level_of, op_level}
 use Rattle.formula_trees.specs.TextNumbers.{TextsBelow, AllTextsBelow}
 use Rattle.formula_tokens.specs.declared.token.Literal.{Literal}
@@ -42,16 +43,16 @@ module _ (names : List (List ℕ)) (ts : Texts) (at : Addr) (good : AreSheetName
     part : Part names ts Exprs args (nodes_of args) (levels_of args) (arguments_text names ts at args) (ArgumentsFit true (Some f) n nodes) (arguments_spelling nodes) (arguments_marks nodes) (arguments_meaning at nodes)
 
   right_binary : (o : Op) (a b : Expr) → Right a → Right b → Right (Binary o a b)
-  right_binary Op.Add a b v w = from_sums names ts at _ _ _ _ (add v.sums Op.Add w.term) (between names ts Op.Add (op_level Op.Add ≡ 2) refl a _ _ _ _ _ _ _ b _ _ _ _ _ _ _ v.second w.third)
-  right_binary Op.Sub a b v w = from_sums names ts at _ _ _ _ (add v.sums Op.Sub w.term) (between names ts Op.Sub (op_level Op.Sub ≡ 2) refl a _ _ _ _ _ _ _ b _ _ _ _ _ _ _ v.second w.third)
-  right_binary Op.Mul a b v w = from_term names ts at _ _ _ _ (multiply v.term Op.Mul w.signed) (between names ts Op.Mul (op_level Op.Mul ≡ 3) refl a _ _ _ _ _ _ _ b _ _ _ _ _ _ _ v.third w.fourth)
-  right_binary Op.Div a b v w = from_term names ts at _ _ _ _ (multiply v.term Op.Div w.signed) (between names ts Op.Div (op_level Op.Div ≡ 3) refl a _ _ _ _ _ _ _ b _ _ _ _ _ _ _ v.third w.fourth)
-  right_binary Op.Eq a b v w = from_expression names ts at _ _ _ _ (compare v.expression Op.Eq w.sums) (between names ts Op.Eq (op_level Op.Eq ≡ 1) refl a _ _ _ _ _ _ _ b _ _ _ _ _ _ _ v.first w.second)
-  right_binary Op.Ne a b v w = from_expression names ts at _ _ _ _ (compare v.expression Op.Ne w.sums) (between names ts Op.Ne (op_level Op.Ne ≡ 1) refl a _ _ _ _ _ _ _ b _ _ _ _ _ _ _ v.first w.second)
-  right_binary Op.Lt a b v w = from_expression names ts at _ _ _ _ (compare v.expression Op.Lt w.sums) (between names ts Op.Lt (op_level Op.Lt ≡ 1) refl a _ _ _ _ _ _ _ b _ _ _ _ _ _ _ v.first w.second)
-  right_binary Op.Le a b v w = from_expression names ts at _ _ _ _ (compare v.expression Op.Le w.sums) (between names ts Op.Le (op_level Op.Le ≡ 1) refl a _ _ _ _ _ _ _ b _ _ _ _ _ _ _ v.first w.second)
-  right_binary Op.Gt a b v w = from_expression names ts at _ _ _ _ (compare v.expression Op.Gt w.sums) (between names ts Op.Gt (op_level Op.Gt ≡ 1) refl a _ _ _ _ _ _ _ b _ _ _ _ _ _ _ v.first w.second)
-  right_binary Op.Ge a b v w = from_expression names ts at _ _ _ _ (compare v.expression Op.Ge w.sums) (between names ts Op.Ge (op_level Op.Ge ≡ 1) refl a _ _ _ _ _ _ _ b _ _ _ _ _ _ _ v.first w.second)
+  right_binary Op.Add a b v w = from_sums names ts at _ _ _ _ (add v.sums Op.Add w.term) (between names ts Op.Add (op_level Op.Add ≡ SUM_LEVEL) refl a _ _ _ _ _ _ _ b _ _ _ _ _ _ _ v.second w.third)
+  right_binary Op.Sub a b v w = from_sums names ts at _ _ _ _ (add v.sums Op.Sub w.term) (between names ts Op.Sub (op_level Op.Sub ≡ SUM_LEVEL) refl a _ _ _ _ _ _ _ b _ _ _ _ _ _ _ v.second w.third)
+  right_binary Op.Mul a b v w = from_term names ts at _ _ _ _ (multiply v.term Op.Mul w.signed) (between names ts Op.Mul (op_level Op.Mul ≡ TERM_LEVEL) refl a _ _ _ _ _ _ _ b _ _ _ _ _ _ _ v.third w.fourth)
+  right_binary Op.Div a b v w = from_term names ts at _ _ _ _ (multiply v.term Op.Div w.signed) (between names ts Op.Div (op_level Op.Div ≡ TERM_LEVEL) refl a _ _ _ _ _ _ _ b _ _ _ _ _ _ _ v.third w.fourth)
+  right_binary Op.Eq a b v w = from_expression names ts at _ _ _ _ (compare v.expression Op.Eq w.sums) (between names ts Op.Eq (op_level Op.Eq ≡ COMPARISON_LEVEL) refl a _ _ _ _ _ _ _ b _ _ _ _ _ _ _ v.first w.second)
+  right_binary Op.Ne a b v w = from_expression names ts at _ _ _ _ (compare v.expression Op.Ne w.sums) (between names ts Op.Ne (op_level Op.Ne ≡ COMPARISON_LEVEL) refl a _ _ _ _ _ _ _ b _ _ _ _ _ _ _ v.first w.second)
+  right_binary Op.Lt a b v w = from_expression names ts at _ _ _ _ (compare v.expression Op.Lt w.sums) (between names ts Op.Lt (op_level Op.Lt ≡ COMPARISON_LEVEL) refl a _ _ _ _ _ _ _ b _ _ _ _ _ _ _ v.first w.second)
+  right_binary Op.Le a b v w = from_expression names ts at _ _ _ _ (compare v.expression Op.Le w.sums) (between names ts Op.Le (op_level Op.Le ≡ COMPARISON_LEVEL) refl a _ _ _ _ _ _ _ b _ _ _ _ _ _ _ v.first w.second)
+  right_binary Op.Gt a b v w = from_expression names ts at _ _ _ _ (compare v.expression Op.Gt w.sums) (between names ts Op.Gt (op_level Op.Gt ≡ COMPARISON_LEVEL) refl a _ _ _ _ _ _ _ b _ _ _ _ _ _ _ v.first w.second)
+  right_binary Op.Ge a b v w = from_expression names ts at _ _ _ _ (compare v.expression Op.Ge w.sums) (between names ts Op.Ge (op_level Op.Ge ≡ COMPARISON_LEVEL) refl a _ _ _ _ _ _ _ b _ _ _ _ _ _ _ v.first w.second)
 
   right_value : (k : Kind) (e : Expr) (v : Right e) → IsOfKind k (value v.expression) → RightArgument k e
   right_value k e v h = record { node = value v.expression; part = of_kind names ts (IsOfKind k (value v.expression)) h _ _ _ _ _ _ _ _ v.whole }

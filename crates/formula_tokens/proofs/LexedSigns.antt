@@ -14,20 +14,14 @@ use Rattle.formula_tokens.specs.declared.token.Literal.{Literal}
 use Rattle.formula_tokens.specs.declared.token.Token.{Token}
 use Rattle.formula_tokens.specs.Words.{begins_word, is_word_byte, leading, begins_with, corner_of, truth_of}
 use Rattle.formula_tokens.specs.Lexemes.{Quoted, Other, cut, bad, is_blank, has_no_dollar, quoted_prefix, with_byte, literal_from, literal_cut, first_lexeme}
-use Rattle.formula_tokens.specs.Spelling.{doubled, quoted, op_text}
+use Rattle.formula_tokens.specs.Spelling.{doubled, quoted, op_text, is_word, no_quote, ends_operator, ends_before}
 use Rattle.formula_tokens.proofs.Lexed.{lexemes_in, one_lexeme}
-use Rattle.formula_tokens.proofs.LexedWords.{closes, opens, is_word, begins_not, closes_words, closes_call, word_solid, run_leads, run_behind, plain_lexeme, word_first}
-
--- what follows an operator makes no longer one of it
-abbrev pub sign_ends : Op → List ℕ → Bool
-sign_ends Op.Lt rest = not (begins_with 61 rest) && not (begins_with 62 rest)
-sign_ends Op.Gt rest = not (begins_with 61 rest)
-sign_ends o rest = true
+use Rattle.formula_tokens.proofs.LexedWords.{closes, opens, begins_not, closes_words, closes_call, word_solid, run_leads, run_behind, plain_lexeme, word_first}
 
 not_sign : (b c : ℕ) → not (eqb b c) ≡ true → eqb c b ≡ false
 not_sign b c h = grind (arith, nat_tests)
 
-pub op_lexeme : (names : List (List ℕ)) (prefixed : Bool) (o : Op) (rest : List ℕ) → sign_ends o rest ≡ true → lexemes_in names 0 prefixed (op_text o ++ rest) ≡ Other (Token.Operator o) ∷ lexemes_in names 0 false rest
+pub op_lexeme : (names : List (List ℕ)) (prefixed : Bool) (o : Op) (rest : List ℕ) → ends_before (ends_operator o) rest ≡ true → lexemes_in names 0 prefixed (op_text o ++ rest) ≡ Other (Token.Operator o) ∷ lexemes_in names 0 false rest
 op_lexeme names prefixed Op.Add rest h = refl
 op_lexeme names prefixed Op.Sub rest h = refl
 op_lexeme names prefixed Op.Mul rest h = refl
@@ -120,9 +114,6 @@ plain_is_word (b ∷ front) h =
       and_from (begins_word b) (list_all is_word_byte (b ∷ front)) begins.0 (weaker is_plain_byte is_word_byte plain_word_byte (b ∷ front) all),
       weaker is_plain_byte (λ c. not (c == 36)) plain_no_dollar (b ∷ front) all,
     )
-
-abbrev pub no_quote : ℕ → Bool
-no_quote b = not (b == 39)
 
 pub quoted_prefix_lexeme : (names : List (List ℕ)) (prefixed : Bool) (name rest : List ℕ) (o : Option ℕ) → list_all no_quote name ≡ true → number_of names name ≡ o → lexemes_in names 0 prefixed ((codes "'" ++ (name ++ codes "'!")) ++ rest) ≡ Other (Token.Prefix o) ∷ lexemes_in names 0 true rest
 quoted_prefix_lexeme names prefixed name rest o h e =

@@ -14,6 +14,7 @@ use Rattle.formula_tokens.specs.declared.token.Literal.{Literal}
 use Rattle.formula_tokens.specs.declared.token.Token.{Token}
 use Rattle.formula_tokens.specs.Words.{begins_word, is_word_byte, leading, behind, begins_with, corner_of, function_name, function_named}
 use Rattle.formula_tokens.specs.Lexemes.{Lexeme, Other, cut, is_blank, is_bad, is_prefix, number_token, apart, has_no_dollar, plain_word, word_cut, first_lexeme}
+use Rattle.formula_tokens.specs.Spelling.{is_word}
 use Rattle.formula_tokens.proofs.Lexed.{lexemes_in, one_lexeme}
 
 -- a byte that may follow an operand: `)`, `,`, `:`, or one of an operator
@@ -76,7 +77,7 @@ begins_not c [] h k = refl
 begins_not c (b ∷ rest) h k = closing_other b c h k
 
 -- numbers
-digit_solid : (b : ℕ) → is_ascii_digit b ≡ true → is_blank b ≡ false
+pub digit_solid : (b : ℕ) → is_ascii_digit b ≡ true → is_blank b ≡ false
 digit_solid b h = grind (arith, nat_tests)
 
 digits_list : (ds : List ℕ) → all_ascii_digits ds ≡ true → list_all is_ascii_digit ds ≡ true
@@ -111,11 +112,6 @@ word_first names prefixed b front rest begins all none =
     cond-false (is_ascii_digit b) _ _ (word_no_digit b begins) ∙ cond-true (begins_word b) _ _ begins
     ∙ ap (λ w. word_cut names prefixed w (behind is_word_byte (b ∷ (front ++ rest)))) (run_leads is_word_byte (b ∷ front) rest all none)
     ∙ ap (λ bs. word_cut names prefixed (b ∷ front) bs) (run_behind is_word_byte (b ∷ front) rest all none)
-
--- a word begins as one and has no other byte
-abbrev pub is_word : List ℕ → Bool
-is_word [] = false
-is_word (b ∷ front) = begins_word b && list_all is_word_byte (b ∷ front)
 
 and_false : (a b : Bool) → b ≡ false → (a && b) ≡ false
 and_false true b h = h

@@ -8,3 +8,4 @@ pub mod Held
 pub mod Lexed
 pub mod LexedWords
 pub mod LexedSigns
+pub mod Written

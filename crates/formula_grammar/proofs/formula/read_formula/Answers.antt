@@ -1,4 +1,5 @@
 use Rattle.std.proofs.Common.{◌∙◌, ◌≤◌, List, length, ap, sym, subst, arith}
+use Rattle.formula_trees.specs.declared.TheConstants.{MAX_FORMULA_BYTES}
 use Rattle.formula_tokens.specs.declared.token.Spot.{Spot}
 use Rattle.cell_values.specs.Texts.{Texts}
 use Rattle.formula_tokens.specs.Tokens.{spots_of, with_literals, HoldsLiterals, TextsAreOf}
@@ -14,7 +15,7 @@ returns-in-Ok-clause-tree c =
 
 pub returns-in-Ok-clause-refused : goal.returns-in-Ok-clause-refused
 returns-in-Ok-clause-refused c =
-    let short : length c.args.text.now ≤ 1024 = omega (arith, c.if-text-gt-MAX_FORMULA_BYTES.false) in
+    let short : length c.args.text.now ≤ MAX_FORMULA_BYTES = omega (arith, c.if-text-gt-MAX_FORMULA_BYTES.false) in
     refused c.args.sheets.now (with_literals c.args.sheets.now c.args.texts.now c.args.text.now) c.args.at c.args.text.now c.deref.result.now c.read_spots.result short
     (c.deref.ensures.value ∙ c.in-Ok.ensures.tokens ∙ ap (λ ts. spots_of c.args.sheets.now ts c.args.text.now) c.in-Ok.ensures.interned) c.read_spots.ensures.ok c.read_spots.ensures.bad
 
