@@ -6,10 +6,12 @@ use lib.ListN.{get_elem?, length-replicate, replicate-append-replicate}
 use Rattle.atomic_table.specs.Table.{opening as opened}
 use Rattle.cell_words.specs.declared.cell_word.CellWord.TheVariants.{Stale}
 use Rattle.cell_words.specs.declared.TheConstants.{WORDS}
+use Rattle.cell_values.specs.declared.TheConstants.{MAX_BOOK_CELLS}
 use Rattle.cell_words.specs.Words.{word_of}
 use Rattle.claim_core.specs.Words.{round_size}
-use Rattle.claim_core.specs.Rule.{total, Setup, RoundWords, is, below, is_done, names, claimer_is, publisher_is, or_none, Each, Spelt, WorkersBelow, Sound, Ruled}
-use Rattle.claim_core.specs.Table.{Holds, opening, count_from}
+use Rattle.claim_core.specs.declared.view.View.{View}
+use Rattle.claim_core.specs.Rule.{total, Setup, is, below, is_done, names, claimer_is, publisher_is, or_none, Each, Spelt, WorkersBelow, Sound, HasTurn, Ruled}
+use Rattle.claim_core.specs.Table.{Holds, opening, first_words, count_from}
 use Rattle.claim_core.proofs.Totals.{each_one}
 
 total_replicate : {A : Type 0} (f : A → ℕ) (n : ℕ) (x : A) → f x ≡ 0 → total f (replicate n x) ≡ 0
@@ -45,11 +47,7 @@ counted_from : (w n a : ℕ) → total (λ x. is x w) (count_from n a) + below w
 counted_from w zero a = let e : below w a ≡ below w (a + 0) = ap (below w) (let q : a ≡ a + 0 = omega arith in q) in omega arith
 counted_from w (suc n) a = let h = counted_from w n (a + 1) in let b = below_one_more w a in let e : below w ((a + 1) + n) ≡ below w (a + suc n) = ap (below w) (let q : (a + 1) + n ≡ a + suc n = omega arith in q) in omega arith
 
--- the words of the setup at the start
-abbrev pub first_words : Setup → RoundWords
-first_words setup = record { counter = 0; cells = replicate (length setup.cells) Stale; tags = replicate (length setup.cells + setup.workers) 0; values = replicate ((length setup.cells + setup.workers) * WORDS) 0 }
-
-pub opening_rule : (setup : Setup) → length setup.cells ≤ 200000 → setup.workers ≤ 64 → Ruled setup (first_words setup) (opening setup ∷ [])
+pub opening_rule : (setup : Setup) → length setup.cells ≤ MAX_BOOK_CELLS → setup.workers ≤ 64 → Ruled setup (first_words setup) (opening setup ∷ [])
 opening_rule setup small few =
     let m = length setup.cells in
     record {
@@ -71,6 +69,8 @@ opening_rule setup small few =
       claimed = λ w i. sym (none_or (claimer_is w) m i Stale refl);
       published = λ w i. sym (none_or (publisher_is w) m i Stale refl);
       sound = each_one Sound (opening setup) record { few_held = omega arith; own_events = λ w i z. (refl, refl) };
+      few_parts = omega arith;
+      exact = each_one (λ (v : View). HasTurn v → v.words ≡ first_words setup) (opening setup) (λ t. refl);
     }
 
 zeros : (m k j n : ℕ) → n ≡ 1 + (m + (k + j)) → replicate n 0 ≡ 0 ∷ (map word_of (replicate m Stale) ++ (replicate k 0 ++ replicate j 0))
@@ -78,7 +78,7 @@ zeros m k j n e = ap (λ j. replicate j 0) (let q : n ≡ suc (m + (k + j)) = om
   ap₂' : (f : List ℕ → List ℕ → List ℕ) {a b : List ℕ} {x y : List ℕ} → a ≡ b → x ≡ y → f a x ≡ f b y
   ap₂' f p q i = f (p i) (q i)
 
-pub opening_allowed : {S : Type 0} (setup : Setup) (ws : List ℕ) (n : ℕ) → length setup.cells ≤ 200000 → setup.workers ≤ 64 → ws ≡ replicate n 0 → n ≡ round_size (length setup.cells) setup.workers
+pub opening_allowed : {S : Type 0} (setup : Setup) (ws : List ℕ) (n : ℕ) → length setup.cells ≤ MAX_BOOK_CELLS → setup.workers ≤ 64 → ws ≡ replicate n 0 → n ≡ round_size (length setup.cells) setup.workers
     → Holds setup (opened {S = S} ws [] (opening setup))
 opening_allowed setup ws n small few zeroed size = record { read = first_words setup; laid = zeroed ∙ zeros (length setup.cells) (length setup.cells + setup.workers) ((length setup.cells + setup.workers) * WORDS) n size; ruled = opening_rule setup small few }
 
