@@ -21,7 +21,7 @@ use Rattle.cell_words.specs.Words.{word_of}
 use Rattle.cell_words.specs.Records.{tag_of, value_of, record_words, IsShown}
 use Rattle.demand_spec.specs.Book.{Book, shown}
 use Rattle.claim_core.specs.Words.{NotBehind, value_place}
-use Rattle.claim_core.specs.Lists.{stored_at}
+use Rattle.claim_core.specs.HeldRecords.{stored_at}
 
 -- f of each, added up
 abbrev pub total : {A : Type 0} → (A → ℕ) → List A → ℕ
@@ -34,6 +34,7 @@ pub record Setup : Type 0 where
   pub cells : List Addr
   pub workers : ℕ
 
+-- what the round of a view is over
 abbrev pub setup_of : View → Setup
 setup_of v = record { book = v.book; cells = v.cells; workers = v.workers }
 
@@ -45,6 +46,7 @@ address cells i = slice_index_or cells i (record { sheet = 0; row = 0; col = 0 }
 abbrev pub shown_in : Setup → ℕ → Shown
 shown_in setup i = shown setup.book (address setup.cells i)
 
+-- the words as they lie in the table: counter, cells, tag words, value words
 abbrev pub words_of : RoundWords → List ℕ
 words_of r = r.counter ∷ (map word_of r.cells ++ (r.tags ++ r.values))
 
@@ -52,9 +54,13 @@ words_of r = r.counter ∷ (map word_of r.cells ++ (r.tags ++ r.values))
 abbrev pub cell_in : RoundWords → ℕ → CellWord
 cell_in r i = slice_index_or r.cells i Stale
 
+-- the parts of the turn, more than there are workers: each step needs one
+abbrev pub all_parts : ℕ
+all_parts = 100
+
 -- the view has all parts of the turn, so that no other pass can step
 abbrev pub HasTurn : View → Type 0
-HasTurn v = v.parts ≡ 100
+HasTurn v = v.parts ≡ all_parts
 
 -- 1 where the two numbers are equal
 abbrev pub is : ℕ → ℕ → ℕ
@@ -194,8 +200,8 @@ pub record Ruled (setup : Setup) (r : RoundWords) (views : List View) : Type 0 w
   -- the same for publishes
   pub published : (w i : ℕ) → total (publishes w i) views ≡ or_none (publisher_is w) (get_elem? r.cells i)
   pub sound : Each views Sound
-  -- the turn has 100 parts, and who has all of them knows the words
-  pub few_parts : total (λ (v : View). v.parts) views ≤ 100
+  -- parts of the turn may get lost, and who has all of them knows the words
+  pub few_parts : total (λ (v : View). v.parts) views ≤ all_parts
   pub exact : Each views (λ v. HasTurn v → v.words ≡ r)
 
 -- an event shows that the cell i had the word c

@@ -24,7 +24,7 @@ pub struct Outcome {
 impl Model for Outcome {
     ghost use Rattle.std.specs.Prelude.{◌≡◌, ◌≤◌, length};
     ghost use Rattle.cell_values.specs.declared.TheConstants.{MAX_BOOK_CELLS};
-    ghost use Rattle.claim_core.specs.Seen.{OutcomeSeen};
+    ghost use Rattle.claim_core.specs.Passes.{OutcomeSeen};
     ghost use Rattle.claim_core.specs.Rule.{setup_of};
 
     ghost Value = { OutcomeSeen };

@@ -7,7 +7,7 @@ ghost use Rattle.cell_words.specs.Words.{Codes};
 ghost use Rattle.cell_words.specs.Records.{tag_of, value_of, record_words, IsShown};
 ghost use Rattle.claim_core.specs.Words.{value_place};
 ghost use Rattle.claim_core.specs.Pending.{IsPending};
-ghost use Rattle.claim_core.specs.Lists.{listed, record_of};
+ghost use Rattle.claim_core.specs.HeldRecords.{listed, record_of};
 
 use crate::event::{Claim, Publish};
 use crate::job::Job;
@@ -34,8 +34,8 @@ pub struct Pass {
 
 impl Model for Pass {
     ghost use Rattle.std.specs.Prelude.{◌≡◌, [], ◌∷◌, map};
-    ghost use Rattle.claim_core.specs.Lists.{listed, record_of};
-    ghost use Rattle.claim_core.specs.Seen.{PassSeen};
+    ghost use Rattle.claim_core.specs.HeldRecords.{listed, record_of};
+    ghost use Rattle.claim_core.specs.Passes.{PassSeen};
 
     ghost Value = { PassSeen };
 
@@ -59,7 +59,7 @@ pub struct Turn {
 impl Model for Turn {
     ghost use Rattle.std.specs.Prelude.{◌≡◌, []};
     ghost use Rattle.claim_core.specs.Rule.{setup_of, HasTurn};
-    ghost use Rattle.claim_core.specs.Seen.{TurnSeen};
+    ghost use Rattle.claim_core.specs.Passes.{TurnSeen};
 
     ghost Value = { TurnSeen };
 
@@ -90,7 +90,7 @@ impl<'b, B: BookView> Model for Round<'b, B> {
     ghost use Rattle.std.specs.Prelude.{◌≡◌, ◌≤◌, [], length, vec_capacity};
     ghost use Rattle.cell_values.specs.declared.TheConstants.{MAX_BOOK_CELLS};
     ghost use Rattle.claim_core.specs.Words.{round_size};
-    ghost use Rattle.claim_core.specs.Seen.{RoundSeen};
+    ghost use Rattle.claim_core.specs.Passes.{RoundSeen};
 
     ghost Value = { RoundSeen };
 
@@ -117,7 +117,7 @@ impl<'b, B: BookView> Round<'b, B> {
     ghost use Rattle.claim_core.specs.declared.event.Event.TheVariants as ev;
     ghost use Rattle.cell_words.specs.declared.cell_word.CellWord.TheVariants as word;
     ghost use Rattle.claim_core.specs.Table.{count_from, first_words};
-    ghost use Rattle.claim_core.specs.Seen.{Belongs, IsPassOf, Stays, IsFresh, IsIdle, IsGiven, IsTurnOf, waiting, number, joined, ListsClaims, ListsPublishes, SeesAllDone};
+    ghost use Rattle.claim_core.specs.Passes.{Belongs, IsPassOf, Stays, IsFresh, IsIdle, IsGiven, IsTurnOf, waiting, number, joined, ListsClaims, ListsPublishes, SeesAllDone};
     ghost use Rattle.claim_core.specs.Rule.{setup_of, HasTurn, cell_in, WorkersBelow, shown_in, LostTo, AgreesLost, Each, Agrees, AgreesAfter, InRound, AnswerInRound, Seen, SeenDone, OwnEvents, Fits, is_done};
     ghost use Rattle.claim_core.specs.Steps.{grown, rec_of, HasSpelt, claim_answer, publish_answer, taken_after, kept_back, given_on, in_turn, idle};
 

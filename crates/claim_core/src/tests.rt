@@ -8,9 +8,9 @@ ghost use Rattle.claim_core.specs.declared.event.Publish.TheVariants as publish;
 ghost use Rattle.cell_values.specs.Addresses.{same_addr};
 ghost use Rattle.claim_core.specs.Rule.{Seen, SeenDone, shown_in, cell_in};
 ghost use Rattle.claim_core.specs.Steps.{HasSpelt, rec_of};
-ghost use Rattle.claim_core.specs.Seen.{IsPassOf, IsFresh, IsIdle, IsTurnOf, Stays, number};
+ghost use Rattle.claim_core.specs.Passes.{IsPassOf, IsFresh, IsIdle, IsTurnOf, Stays, number};
 ghost use Rattle.claim_core.specs.Table.{count_from, first_words};
-ghost use Rattle.claim_core.specs.Client.{SeesMore, IsClaimed, SawDone, Carries, Starts, Waits, Turns, two_words};
+ghost use Rattle.claim_core.specs.TestClient.{SeesMore, IsClaimed, SawDone, Carries, Starts, Waits, Turns, two_words};
 
 use crate::{Claim, Job, Pass, Publish, Round, Turn};
 use cell_values::{Addr, Shown, Value};
@@ -46,7 +46,7 @@ fn same(a: Addr, b: Addr) -> bool
 
 impl BookView for TwoCells {
     ghost use Rattle.claim_core.specs.Table.{count_from};
-    ghost use Rattle.claim_core.specs.Client.{two_cells};
+    ghost use Rattle.claim_core.specs.TestClient.{two_cells};
 
     ghost book = { λ _. two_cells };
 

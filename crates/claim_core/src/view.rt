@@ -53,7 +53,7 @@ pub struct RoundWords {
 
 /// What a pass knows: the book, the cells and the number of workers of the round, and beside them the
 /// workers' numbers that it has, the events in their order, and the records that it holds.
-/// A pass steps only with a part of the turn, of which there are 100 in all. Where it has all of them,
+/// A pass steps only with a part of the turn. Where it has all parts,
 /// `words` are the words of the round.
 pub struct View {
     pub book: PassBook,

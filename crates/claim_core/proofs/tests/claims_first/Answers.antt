@@ -7,14 +7,14 @@ use Rattle.claim_core.specs.declared.event.Claim.{Claim}
 use Rattle.claim_core.specs.declared.event.Claim.TheVariants as claim
 use Rattle.claim_core.specs.declared.view.RoundWords.{RoundWords}
 use Rattle.claim_core.specs.declared.view.View.{View}
-use Rattle.claim_core.specs.Client.{two_words}
-use Rattle.claim_core.specs.Lists.{record_of}
+use Rattle.claim_core.specs.TestClient.{two_words}
+use Rattle.claim_core.specs.HeldRecords.{record_of}
 use Rattle.claim_core.specs.Rule.{cell_in, Seen}
 use Rattle.claim_core.specs.Steps.{words_after, rec_of, claim_answer, valued, tagged, grown, HasSpelt}
-use Rattle.claim_core.proofs.Seeing.{still_seen}
+use Rattle.claim_core.proofs.SeenEvents.{still_seen}
 use Rattle.cell_words.proofs.Counts.{record_words_small}
-use Rattle.claim_core.proofs.Found.{won_by, stores_none, stores_more, spelt_after}
-use Rattle.claim_core.proofs.Turning.{InTurn, takes_turn, next, rec_stays}
+use Rattle.claim_core.proofs.ClientSteps.{won_by, stores_none, stores_more, spelt_after}
+use Rattle.claim_core.proofs.TurnSteps.{InTurn, takes_turn, next, rec_stays}
 use Rattle.claim_core.proofs.tests.claims_first.Goals as goal
 
 pub returns-clause-turn : goal.returns-clause-turn

@@ -1,7 +1,7 @@
 use Rattle.cell_words.proofs.Counts.{record_words_some}
 use Rattle.claim_core.specs.Rule.{shown_in}
-use Rattle.claim_core.proofs.Seeing.{still_done}
-use Rattle.claim_core.proofs.Found.{loaded_spells}
+use Rattle.claim_core.proofs.SeenEvents.{still_done}
+use Rattle.claim_core.proofs.ClientSteps.{loaded_spells}
 use Rattle.claim_core.proofs.tests.decodes.Goals as goal
 
 pub loads_high-high-requires-clause-pass : goal.loads_high-high-requires-clause-pass

@@ -5,10 +5,10 @@ use Rattle.claim_core.specs.declared.event.Event.TheVariants as ev
 use Rattle.claim_core.specs.declared.event.Publish.{Publish}
 use Rattle.claim_core.specs.declared.event.Publish.TheVariants as publish
 use Rattle.claim_core.specs.declared.view.RoundWords.{RoundWords}
-use Rattle.claim_core.specs.Client.{two_words}
+use Rattle.claim_core.specs.TestClient.{two_words}
 use Rattle.claim_core.specs.Rule.{cell_in}
 use Rattle.claim_core.specs.Steps.{words_after, rec_of, publish_answer}
-use Rattle.claim_core.proofs.Turning.{InTurn, takes_turn, next}
+use Rattle.claim_core.proofs.TurnSteps.{InTurn, takes_turn, next}
 use Rattle.claim_core.proofs.tests.publishes_first.Goals as goal
 
 pub returns-clause-turn : goal.returns-clause-turn

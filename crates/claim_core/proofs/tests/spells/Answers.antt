@@ -1,7 +1,7 @@
 use Rattle.std.proofs.Common.{rules, arith, ap, ◌∙◌, map}
 use Rattle.claim_core.specs.Steps.{valued, tagged}
-use Rattle.claim_core.proofs.Seeing.{still_seen}
-use Rattle.claim_core.proofs.Found.{stores_more, spelt_after}
+use Rattle.claim_core.proofs.SeenEvents.{still_seen}
+use Rattle.claim_core.proofs.ClientSteps.{stores_more, spelt_after}
 use Rattle.claim_core.proofs.tests.spells.Goals as goal
 
 pub loop-k-preserved : goal.loop-k-preserved

@@ -1,7 +1,7 @@
 use Rattle.std.proofs.Common.{IsSome}
-use Rattle.claim_core.specs.Seen.{Stays}
-use Rattle.claim_core.specs.Client.{SeesMore}
-use Rattle.claim_core.proofs.Found.{StoresFirst}
+use Rattle.claim_core.specs.Passes.{Stays}
+use Rattle.claim_core.specs.TestClient.{SeesMore}
+use Rattle.claim_core.proofs.ClientSteps.{StoresFirst}
 use Rattle.claim_core.proofs.tests.spells.Given as goal
 
 abbrev pub invariant-loop-k : goal.invariant-loop-k

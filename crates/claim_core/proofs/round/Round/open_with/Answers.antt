@@ -2,7 +2,7 @@ use Rattle.std.proofs.Common.{◌≤◌, length, ◌∙◌, arith}
 use Rattle.std.proofs.Math.Logic.{∥∥₁_elim}
 use Rattle.std.specs.Coded.{le_prop}
 use Rattle.cell_values.specs.declared.TheConstants.{MAX_BOOK_CELLS}
-use Rattle.claim_core.proofs.Opening.{opening_allowed}
+use Rattle.claim_core.proofs.OpenedRound.{opening_allowed}
 use Rattle.claim_core.proofs.round.Round.open_with.Goals as goal
 
 pub of_words-requires : goal.of_words-requires

@@ -21,11 +21,11 @@ use Rattle.claim_core.specs.declared.event.Publish.{Publish}
 use Rattle.claim_core.specs.declared.event.Publish.TheVariants as publish
 use Rattle.claim_core.specs.declared.view.Held.{Held}
 use Rattle.claim_core.specs.declared.view.View.{View}
-use Rattle.claim_core.specs.Lists.{stored_at, held_tag, held_value}
+use Rattle.claim_core.specs.HeldRecords.{stored_at, held_tag, held_value}
 use Rattle.claim_core.specs.Rule.{Setup, address, shown_in, Seen, SeenDone, InRound, AnswerInRound}
 use Rattle.claim_core.specs.Steps.{me, noted, changed, tagged, valued, HasSpelt}
-use Rattle.claim_core.specs.Client.{IsClaimed, SawDone, first_cell, second_cell, two_cells}
-use Rattle.claim_core.proofs.Seeing.{seen_by, seen_done_by}
+use Rattle.claim_core.specs.TestClient.{IsClaimed, SawDone, first_cell, second_cell, two_cells}
+use Rattle.claim_core.proofs.SeenEvents.{seen_by, seen_done_by}
 
 module _ (i : ℕ) (v w : View) where
   pub won_by : (worker : ℕ) → v.numbers ≡ worker ∷ [] → w ≡ noted (ev.Claim i claim.Won) v → Seen w i (Claimed worker)

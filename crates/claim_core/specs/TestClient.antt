@@ -10,7 +10,7 @@ use Rattle.demand_spec.specs.Book.{Book, Formula}
 use Rattle.claim_core.specs.declared.view.View.{View}
 use Rattle.claim_core.specs.declared.view.RoundWords.{RoundWords}
 use Rattle.claim_core.specs.Rule.{Seen, SeenDone, shown_in}
-use Rattle.claim_core.specs.Seen.{RoundSeen, PassSeen, TurnSeen, IsPassOf, Belongs, IsTurnOf}
+use Rattle.claim_core.specs.Passes.{RoundSeen, PassSeen, TurnSeen, IsPassOf, Belongs, IsTurnOf}
 
 -- what the one view has seen, the other has seen
 abbrev pub SeesMore : View → View → Type 0
@@ -28,9 +28,11 @@ SawDone v i = (k : ℕ) × SeenDone v i k
 abbrev pub Carries : RoundSeen → PassSeen → ℕ → Shown → Type 0
 Carries r p i s = IsPassOf r p × (i < length r.setup.cells) × (s ≡ shown_in r.setup i)
 
+-- A1
 abbrev pub first_cell : Addr
 first_cell = record { sheet = 0; row = 1; col = 1 }
 
+-- A2
 abbrev pub second_cell : Addr
 second_cell = record { sheet = 0; row = 2; col = 1 }
 
