@@ -83,9 +83,9 @@ value_stays j k x y (h ∷ hs) n e =
 pub stores_more : (s : Shown) (k : ℕ) (v w : View) → w.held ≡ map (valued k (value_of s k)) v.held → StoresFirst s k v → StoresFirst s (k + 1) w
 stores_more s k v w is h j l =
     subst (λ (hs : List Held). map (held_value j) hs ≡ map (λ _. Some (value_of s j)) hs) (sym is) (by_test (eqb k j) refl) where
-  by_test : (b : Bool) → eqb k j ≡ b → map (held_value j) (map (valued k (value_of s k)) v.held) ≡ map (λ _. Some (value_of s j)) (map (valued k (value_of s k)) v.held)
-  by_test true e = subst (λ j. map (held_value j) (map (valued k (value_of s k)) v.held) ≡ map (λ _. Some (value_of s j)) (map (valued k (value_of s k)) v.held)) (eqb-true k j e) (value_there k (value_of s k) v.held)
-  by_test false e = let n = eqb-false k j e in value_stays j k (value_of s k) (value_of s j) v.held n (h j (omega arith))
+      by_test : (b : Bool) → eqb k j ≡ b → map (held_value j) (map (valued k (value_of s k)) v.held) ≡ map (λ _. Some (value_of s j)) (map (valued k (value_of s k)) v.held)
+      by_test true e = subst (λ j. map (held_value j) (map (valued k (value_of s k)) v.held) ≡ map (λ _. Some (value_of s j)) (map (valued k (value_of s k)) v.held)) (eqb-true k j e) (value_there k (value_of s k) v.held)
+      by_test false e = let n = eqb-false k j e in value_stays j k (value_of s k) (value_of s j) v.held n (h j (omega arith))
 
 value_tagged : (j x y : ℕ) (hs : List Held) → map (held_value j) hs ≡ map (λ _. Some y) hs → map (held_value j) (map (tagged x) hs) ≡ map (λ _. Some y) (map (tagged x) hs)
 value_tagged j x y [] e = refl

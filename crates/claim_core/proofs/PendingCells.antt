@@ -1,5 +1,5 @@
 -- That cells are pending can be told, so it is known where it is known at all.
-use Rattle.std.proofs.Common.{◌≡◌, ℕ, ◌<◌, ◌≤◌, ◌⊎◌, Bool, true, false, Option, Some, None, is_some, IsSome, List, [], ◌∷◌, length, sym, refl, ap, ◌∙◌, inl, inr, ⊎_elim, subst, arith, suc}
+use Rattle.std.proofs.Common.{◌≡◌, ℕ, ◌<◌, ◌≤◌, ◌⊎◌, Option, Some, None, IsSome, List, [], ◌∷◌, length, refl, ap, inl, inr, ⊎_elim, arith, suc}
 use Rattle.std.proofs.Math.Logic.{∥∥₁_elim}
 use mathlib.Core.HLevel.{⊥_prop}
 use native.Mathlib.Decide.{dec_le, ℕ_discrete}
@@ -8,7 +8,7 @@ use Rattle.cell_values.specs.Addresses.{IsBefore}
 use Rattle.cell_values.specs.declared.TheConstants.{MAX_BOOK_CELLS}
 use Rattle.cell_values.specs.Order.{IsBeforeAll, InOrder}
 use Rattle.demand_spec.specs.Book.{Book, formula_at}
-use Rattle.demand_spec.specs.Laws.{In, IsClosed, Mentions}
+use Rattle.demand_spec.specs.Laws.{In}
 use Rattle.claim_core.specs.Pending.{IsPending}
 
 or_dec : {A B : Type 0} → Dec A → Dec B → Dec (A ⊎ B)

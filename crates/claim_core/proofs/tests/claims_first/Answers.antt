@@ -1,14 +1,11 @@
 use Rattle.std.proofs.Common.{rules, ◌≡◌, ℕ, ◌∷◌, [], ◌∙◌, ap, refl, subst, sym, map}
-use Rattle.cell_words.specs.declared.cell_word.CellWord.TheVariants.{Stale, Claimed, Done}
-use Rattle.cell_words.specs.declared.cell_word.CellWord.{CellWord}
-use Rattle.cell_words.specs.Records.{tag_of, value_of}
+use Rattle.cell_words.specs.declared.cell_word.CellWord.TheVariants.{Stale, Claimed}
+use Rattle.cell_words.specs.Records.{value_of}
 use Rattle.claim_core.specs.declared.event.Event.TheVariants as ev
-use Rattle.claim_core.specs.declared.event.Claim.{Claim}
 use Rattle.claim_core.specs.declared.event.Claim.TheVariants as claim
 use Rattle.claim_core.specs.declared.view.RoundWords.{RoundWords}
 use Rattle.claim_core.specs.declared.view.View.{View}
 use Rattle.claim_core.specs.TestClient.{two_words}
-use Rattle.claim_core.specs.HeldRecords.{record_of}
 use Rattle.claim_core.specs.Rule.{cell_in, Seen}
 use Rattle.claim_core.specs.Steps.{words_after, rec_of, claim_answer, valued, tagged, grown, HasSpelt}
 use Rattle.claim_core.proofs.SeenEvents.{still_seen}

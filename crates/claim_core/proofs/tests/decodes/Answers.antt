@@ -6,8 +6,7 @@ use Rattle.claim_core.proofs.tests.decodes.Goals as goal
 
 pub loads_high-high-requires-clause-pass : goal.loads_high-high-requires-clause-pass
 loads_high-high-requires-clause-pass g c κs out =
-    let tagged = still_done _ _ c.args.pass.now.view c.load_tag-tag.new.pass.view c.load_tag-tag.ensures.step c.args.i c.args.rec c.requires.2 in
-    (
+    let tagged = still_done _ _ c.args.pass.now.view c.load_tag-tag.new.pass.view c.load_tag-tag.ensures.step c.args.i c.args.rec c.requires.2 in (
       c.load_value-low.ensures.pass.0.0,
       c.requires.1,
       still_done _ _ c.load_tag-tag.new.pass.view c.load_value-low.new.pass.view c.load_value-low.ensures.step c.args.i c.args.rec tagged,

@@ -1,5 +1,5 @@
-use Rattle.std.proofs.Common.{rules, ◌≡◌, ℕ, ◌∷◌, [], ◌∙◌, ap, refl, subst}
-use Rattle.cell_words.specs.declared.cell_word.CellWord.TheVariants.{Stale, Claimed, Done}
+use Rattle.std.proofs.Common.{◌≡◌, ℕ, ◌∷◌, [], ◌∙◌, ap}
+use Rattle.cell_words.specs.declared.cell_word.CellWord.TheVariants.{Stale, Claimed}
 use Rattle.cell_words.specs.Records.{tag_of, value_of}
 use Rattle.claim_core.specs.declared.event.Event.TheVariants as ev
 use Rattle.claim_core.specs.declared.event.Publish.{Publish}
