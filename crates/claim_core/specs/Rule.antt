@@ -12,14 +12,16 @@ use Rattle.claim_core.specs.declared.event.Publish.TheVariants as publish
 use Rattle.claim_core.specs.declared.view.Made.{Made}
 use Rattle.claim_core.specs.declared.view.Held.{Held}
 use Rattle.claim_core.specs.declared.view.View.{View}
+use Rattle.claim_core.specs.declared.view.RoundWords.{RoundWords}
 use Rattle.cell_values.specs.declared.address.Addr.{Addr}
 use Rattle.cell_values.specs.declared.values.Shown.{Shown}
 use Rattle.cell_words.specs.declared.TheConstants.{WORDS}
+use Rattle.cell_values.specs.declared.TheConstants.{MAX_BOOK_CELLS}
 use Rattle.cell_words.specs.Words.{word_of}
-use Rattle.cell_words.specs.Records.{tag_of, value_of, record_words}
+use Rattle.cell_words.specs.Records.{tag_of, value_of, record_words, IsShown}
 use Rattle.demand_spec.specs.Book.{Book, shown}
 use Rattle.claim_core.specs.Words.{NotBehind, value_place}
-use Rattle.claim_core.specs.Lists.{stored_at}
+use Rattle.claim_core.specs.HeldRecords.{stored_at}
 
 -- f of each, added up
 abbrev pub total : {A : Type 0} → (A → ℕ) → List A → ℕ
@@ -32,6 +34,7 @@ pub record Setup : Type 0 where
   pub cells : List Addr
   pub workers : ℕ
 
+-- what the round of a view is over
 abbrev pub setup_of : View → Setup
 setup_of v = record { book = v.book; cells = v.cells; workers = v.workers }
 
@@ -43,15 +46,21 @@ address cells i = slice_index_or cells i (record { sheet = 0; row = 0; col = 0 }
 abbrev pub shown_in : Setup → ℕ → Shown
 shown_in setup i = shown setup.book (address setup.cells i)
 
--- the words of a round, read: the counter, each cell's word, each record's tag word, and the value words of the records, record by record
-pub record RoundWords : Type 0 where
-  pub counter : ℕ
-  pub cells : List CellWord
-  pub tags : List ℕ
-  pub values : List ℕ
-
+-- the words as they lie in the table: counter, cells, tag words, value words
 abbrev pub words_of : RoundWords → List ℕ
 words_of r = r.counter ∷ (map word_of r.cells ++ (r.tags ++ r.values))
+
+-- the word of the cell i
+abbrev pub cell_in : RoundWords → ℕ → CellWord
+cell_in r i = slice_index_or r.cells i Stale
+
+-- the parts of the turn, more than there are workers: each step needs one
+abbrev pub all_parts : ℕ
+all_parts = 100
+
+-- the view has all parts of the turn, so that no other pass can step
+abbrev pub HasTurn : View → Type 0
+HasTurn v = v.parts ≡ all_parts
 
 -- 1 where the two numbers are equal
 abbrev pub is : ℕ → ℕ → ℕ
@@ -134,7 +143,7 @@ Each {A} xs P = (n : ℕ) (x : A) → get_elem? xs n ≡ some x → P x
 
 -- the record k has the words of this
 abbrev pub HasWords : RoundWords → ℕ → Shown → Type 0
-HasWords r k s = (slice_index r.tags k ≡ tag_of s) × ((j : ℕ) → j < record_words s → slice_index r.values (value_place k j) ≡ value_of s j)
+HasWords r k s = IsShown s × (slice_index r.tags k ≡ tag_of s) × ((j : ℕ) → j < record_words s → slice_index r.values (value_place k j) ≡ value_of s j)
 
 -- where the cell i is done, its record has the words of what the book shows there
 abbrev pub Spelt : Setup → RoundWords → ℕ → CellWord → Type 0
@@ -164,7 +173,7 @@ pub record Sound (v : View) : Type 0 where
 
 -- the words of the round as they stand, without the passes
 pub record RuledWords (setup : Setup) (r : RoundWords) : Type 0 where
-  pub few_cells : length setup.cells ≤ 200000
+  pub few_cells : length setup.cells ≤ MAX_BOOK_CELLS
   pub few_workers : setup.workers ≤ 64
   pub cells_sized : length r.cells ≡ length setup.cells
   pub tags_sized : length r.tags ≡ length setup.cells + setup.workers
@@ -191,6 +200,9 @@ pub record Ruled (setup : Setup) (r : RoundWords) (views : List View) : Type 0 w
   -- the same for publishes
   pub published : (w i : ℕ) → total (publishes w i) views ≡ or_none (publisher_is w) (get_elem? r.cells i)
   pub sound : Each views Sound
+  -- parts of the turn may get lost, and who has all of them knows the words
+  pub few_parts : total (λ (v : View). v.parts) views ≤ all_parts
+  pub exact : Each views (λ v. HasTurn v → v.words ≡ r)
 
 -- an event shows that the cell i had the word c
 abbrev pub Shows : Made → ℕ → CellWord → Type 0

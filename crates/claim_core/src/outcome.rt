@@ -1,5 +1,7 @@
-// What a closed round leaves.
-ghost use Rattle.std.specs.Prelude.{◌≡◌, ◌<◌, ◌≤◌, length, slice_index_or};
+//! What a closed round leaves.
+
+ghost use Rattle.std.specs.Prelude.{◌≡◌, ◌<◌, ◌≤◌, length, slice_get, Some};
+ghost use Rattle.cell_values.specs.declared.TheConstants.{MAX_BOOK_CELLS};
 ghost use Rattle.claim_core.specs.Rule.{address, setup_of};
 
 use crate::view::View;
@@ -21,7 +23,8 @@ pub struct Outcome {
 
 impl Model for Outcome {
     ghost use Rattle.std.specs.Prelude.{◌≡◌, ◌≤◌, length};
-    ghost use Rattle.claim_core.specs.Seen.{OutcomeSeen};
+    ghost use Rattle.cell_values.specs.declared.TheConstants.{MAX_BOOK_CELLS};
+    ghost use Rattle.claim_core.specs.Passes.{OutcomeSeen};
     ghost use Rattle.claim_core.specs.Rule.{setup_of};
 
     ghost Value = { OutcomeSeen };
@@ -33,7 +36,7 @@ impl Model for Outcome {
 
     ghost view = { λ o. record { setup = setup_of o.stub.me.0; words = o.words.items } };
 
-    ghost invariant = { λ o. (o.cells.items ≡ o.stub.me.0.cells) × (o.workers ≡ o.stub.me.0.workers) × (length o.words.items ≡ length o.stub.me.0.cells) × (length o.words.items ≤ 200000) };
+    ghost invariant = { λ o. (o.cells.items ≡ o.stub.me.0.cells) × (o.workers ≡ o.stub.me.0.workers) × (length o.words.items ≡ length o.stub.me.0.cells) × (length o.words.items ≤ MAX_BOOK_CELLS) };
 }
 
 impl Outcome {
@@ -45,7 +48,7 @@ impl Outcome {
     ) -> Outcome
         requires cells { cells.items ≡ stub.me.0.cells }
         requires workers { workers ≡ stub.me.0.workers }
-        requires words { (length words.items ≡ length stub.me.0.cells) × (length words.items ≤ 200000) }
+        requires words { (length words.items ≡ length stub.me.0.cells) × (length words.items ≤ MAX_BOOK_CELLS) }
         ensures { (result.setup ≡ setup_of stub.me.0) × (result.words ≡ words.items) }
     {
         Outcome {
@@ -58,7 +61,8 @@ impl Outcome {
 
     /// How many cells the round was over.
     pub fn len(&self) -> u32
-        ensures { result ≡ length self.now.setup.cells }
+        ensures cells { result ≡ length self.now.setup.cells }
+        ensures words { result ≡ length self.now.words }
     {
         self.cells.len() as u32
     }
@@ -81,7 +85,7 @@ impl Outcome {
     /// The word of a cell at the close.
     pub fn word(&self, i: u32) -> CellWord
         requires { i < length self.now.setup.cells }
-        ensures { result ≡ slice_index_or self.now.words i result }
+        ensures { slice_get self.now.words i ≡ Some result }
     {
         self.words[i as usize]
     }

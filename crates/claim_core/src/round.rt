@@ -1,19 +1,20 @@
-// The shared round, and a worker's pass.
-ghost use Rattle.std.specs.Prelude.{◌≡◌, ℕ, ◌+◌, ◌*◌, ◌<◌, ◌≤◌, ◌^◌, [], ◌∷◌, map, length, slice_index_or, slice_index, Some, IsNone, IsSome, is_some, IfOk, All, vec_len, vec_capacity};
+//! The shared round: its eight steps, and a worker's pass.
+
+ghost use Rattle.std.specs.Prelude.{◌≡◌, ℕ, ◌+◌, ◌*◌, ◌<◌, ◌≤◌, ◌^◌, [], ◌∷◌, map, length, slice_index_or, slice_index, Some, IsNone, IsSome, is_some, IfOk, OnOk, All, vec_len, vec_capacity};
 ghost use Rattle.std.specs.Slots.{slots_items, slots_len, IsFull};
 ghost use Rattle.cell_words.specs.declared.cell_word.CellWord.{CellWord};
 ghost use Rattle.cell_words.specs.Words.{Codes};
-ghost use Rattle.cell_words.specs.Records.{tag_of, value_of, record_words};
+ghost use Rattle.cell_words.specs.Records.{tag_of, value_of, record_words, IsShown};
 ghost use Rattle.claim_core.specs.Words.{value_place};
 ghost use Rattle.claim_core.specs.Pending.{IsPending};
-ghost use Rattle.claim_core.specs.Lists.{listed, record_of};
+ghost use Rattle.claim_core.specs.HeldRecords.{listed, record_of};
 
 use crate::event::{Claim, Publish};
 use crate::job::Job;
 use crate::outcome::Outcome;
 use crate::rule::{
-    Claims, Deals, Gathers, Learns, LoadsTag, LoadsValue, Looks, Publishes, RoundKey, RoundRule,
-    StoresTag, StoresValue, Stubs, Takes,
+    Claims, Deals, DealsIdle, Gathers, GivesTurn, Learns, LoadsTag, LoadsValue, Looks, Publishes,
+    RoundKey, RoundRule, StoresTag, StoresValue, Stubs, Takes, TakesTurn,
 };
 use crate::view::View;
 use atomic_table::{Closed, Seat, Table};
@@ -33,8 +34,8 @@ pub struct Pass {
 
 impl Model for Pass {
     ghost use Rattle.std.specs.Prelude.{◌≡◌, [], ◌∷◌, map};
-    ghost use Rattle.claim_core.specs.Lists.{listed, record_of};
-    ghost use Rattle.claim_core.specs.Seen.{PassSeen};
+    ghost use Rattle.claim_core.specs.HeldRecords.{listed, record_of};
+    ghost use Rattle.claim_core.specs.Passes.{PassSeen};
 
     ghost Value = { PassSeen };
 
@@ -46,6 +47,30 @@ impl Model for Pass {
     ghost view = { λ p. record { worker = p.worker; taken = p.taken; table = p.seat.table_id; view = p.seat.me.0 } };
 
     ghost invariant = { λ p. (p.seat.me.0.numbers ≡ p.worker ∷ []) × (p.seat.me.1 ≡ []) × (map record_of p.seat.me.0.held ≡ listed p.taken) };
+}
+
+/// The turn of a round whose passes step one at a time, in an order that is given: who has it may step,
+/// and knows the words as they stand.
+#[derive(Drop)]
+pub struct Turn {
+    seat: Seat<(), View>,
+}
+
+impl Model for Turn {
+    ghost use Rattle.std.specs.Prelude.{◌≡◌, []};
+    ghost use Rattle.claim_core.specs.Rule.{setup_of, HasTurn};
+    ghost use Rattle.claim_core.specs.Passes.{TurnSeen};
+
+    ghost Value = { TurnSeen };
+
+    ghost use Rattle.claim_core.specs.BookCode.{book_code};
+    ghost use Rattle.std.specs.Coded.{codes};
+
+    ghost coded = { Prim.hlevel (codes, book_code) };
+
+    ghost view = { λ t. record { setup = setup_of t.seat.me.0; table = t.seat.table_id; words = t.seat.me.0.words } };
+
+    ghost invariant = { λ t. (t.seat.me.0.numbers ≡ []) × (t.seat.me.0.events ≡ []) × (t.seat.me.0.held ≡ []) × (t.seat.me.1 ≡ []) × HasTurn t.seat.me.0 };
 }
 
 /// The shared words of one recalculation: a counter of the records that are taken, a word for each
@@ -63,8 +88,9 @@ pub struct Round<'b, B: BookView> {
 
 impl<'b, B: BookView> Model for Round<'b, B> {
     ghost use Rattle.std.specs.Prelude.{◌≡◌, ◌≤◌, [], length, vec_capacity};
+    ghost use Rattle.cell_values.specs.declared.TheConstants.{MAX_BOOK_CELLS};
     ghost use Rattle.claim_core.specs.Words.{round_size};
-    ghost use Rattle.claim_core.specs.Seen.{RoundSeen};
+    ghost use Rattle.claim_core.specs.Passes.{RoundSeen};
 
     ghost Value = { RoundSeen };
 
@@ -75,7 +101,7 @@ impl<'b, B: BookView> Model for Round<'b, B> {
 
     ghost view = { λ r. record { setup = record { book = B.book r.job.book.now; cells = r.job.cells.now; workers = r.workers }; table = r.table.shared.table_id } };
 
-    ghost invariant = { λ r. (r.table.shared.key.job ≡ r.job) × (r.table.shared.key.workers ≡ r.workers) × (r.table.shared.table_id.words ≡ round_size (length r.job.cells.now) r.workers) × (r.table.shared.table_id.slots ≡ 0) × (r.room.items ≡ []) × (length r.job.cells.now ≤ vec_capacity r.room) × (r.cells.items ≡ r.job.cells.now) × (length r.job.cells.now ≤ 200000) × (1 ≤ r.workers) × (r.workers ≤ 64) };
+    ghost invariant = { λ r. (r.table.shared.key.job ≡ r.job) × (r.table.shared.key.workers ≡ r.workers) × (r.table.shared.table_id.words ≡ round_size (length r.job.cells.now) r.workers) × (r.table.shared.table_id.slots ≡ 0) × (r.room.items ≡ []) × (length r.job.cells.now ≤ vec_capacity r.room) × (r.cells.items ≡ r.job.cells.now) × (length r.job.cells.now ≤ MAX_BOOK_CELLS) × (1 ≤ r.workers) × (r.workers ≤ 64) };
 }
 
 impl Pass {
@@ -90,16 +116,16 @@ impl Pass {
 impl<'b, B: BookView> Round<'b, B> {
     ghost use Rattle.claim_core.specs.declared.event.Event.TheVariants as ev;
     ghost use Rattle.cell_words.specs.declared.cell_word.CellWord.TheVariants as word;
-    ghost use Rattle.claim_core.specs.Table.{count_from};
-    ghost use Rattle.claim_core.specs.Seen.{IsPassOf, Stays, IsFresh, waiting, number, joined, ListsClaims, ListsPublishes, SeesAllDone};
-    ghost use Rattle.claim_core.specs.Rule.{setup_of, shown_in, LostTo, AgreesLost, Each, Agrees, AgreesAfter, InRound, AnswerInRound, Seen, SeenDone, OwnEvents, Fits, is_done};
-    ghost use Rattle.claim_core.specs.Steps.{noted, changed, fresh, tagged, valued, rec_of, HasSpelt, held_after, taken_after};
+    ghost use Rattle.claim_core.specs.Table.{count_from, first_words};
+    ghost use Rattle.claim_core.specs.Passes.{Belongs, IsPassOf, Stays, IsFresh, IsIdle, IsGiven, IsTurnOf, waiting, number, joined, ListsClaims, ListsPublishes, SeesAllDone};
+    ghost use Rattle.claim_core.specs.Rule.{setup_of, HasTurn, cell_in, WorkersBelow, shown_in, LostTo, AgreesLost, Each, Agrees, AgreesAfter, InRound, AnswerInRound, Seen, SeenDone, OwnEvents, Fits, is_done};
+    ghost use Rattle.claim_core.specs.Steps.{grown, rec_of, HasSpelt, claim_answer, publish_answer, taken_after, kept_back, given_on, in_turn, idle};
 
     /// The number of workers. It is no step.
     pub fn workers(&self) -> u8
         ensures number { result ≡ self.now.setup.workers }
         ensures range { (1 ≤ result) × (result ≤ 64) }
-        ensures pending { ∥ IsPending self.now.setup.book self.now.setup.cells ∥₁ }
+        ensures pending { IsPending self.now.setup.book self.now.setup.cells }
     {
         self.workers
     }
@@ -126,9 +152,10 @@ impl<'b, B: BookView> Round<'b, B> {
     pub fn look(&self, pass: &mut Pass, i: u32) -> CellWord
         requires { IsPassOf self.now pass.old × (i < length self.now.setup.cells) }
         ensures pass { Stays self.now pass.old pass.new }
-        ensures step { pass.new.view ≡ noted (ev.Look i result) pass.old.view }
+        ensures step { pass.new.view ≡ grown (ev.Look i result) pass.old.view }
         ensures later { Each pass.old.view.events (Agrees i result) }
         ensures numbers { InRound pass.old.view result }
+        ensures exact { HasTurn pass.old.view → result ≡ cell_in pass.old.view.words i }
         ensures taken { pass.new.taken ≡ pass.old.taken }
     {
         let word = self
@@ -142,9 +169,10 @@ impl<'b, B: BookView> Round<'b, B> {
     pub fn claim(&self, pass: &mut Pass, i: u32) -> Claim
         requires { IsPassOf self.now pass.old × (i < length self.now.setup.cells) }
         ensures pass { Stays self.now pass.old pass.new }
-        ensures step { pass.new.view ≡ noted (ev.Claim i result) pass.old.view }
+        ensures step { pass.new.view ≡ grown (ev.Claim i result) pass.old.view }
         ensures later { Each pass.old.view.events (AgreesAfter i result) }
         ensures numbers { AnswerInRound pass.old.view result }
+        ensures exact { HasTurn pass.old.view → result ≡ claim_answer (cell_in pass.old.view.words i) }
         ensures taken { pass.new.taken ≡ pass.old.taken }
     {
         let word = self.table.shared.compare_exchange::<Claims>(
@@ -162,7 +190,8 @@ impl<'b, B: BookView> Round<'b, B> {
         ensures pass { Stays self.now pass.old pass.new }
         ensures taken { pass.new.taken ≡ Some result }
         ensures number { result < length self.now.setup.cells + self.now.setup.workers }
-        ensures step { pass.new.view ≡ changed (ev.TakeRecord result) (fresh result ∷ []) pass.old.view }
+        ensures step { pass.new.view ≡ grown (ev.TakeRecord result) pass.old.view }
+        ensures exact { HasTurn pass.old.view → result ≡ pass.old.view.words.counter }
     {
         let number = self.table.shared.fetch_add::<Takes>(&mut pass.seat, 0, 1);
         let taken = number as u32;
@@ -174,7 +203,7 @@ impl<'b, B: BookView> Round<'b, B> {
     pub fn store_value(&self, pass: &mut Pass, k: u32, word: u64)
         requires { IsPassOf self.now pass.old × IsSome pass.old.taken × (k < WORDS) }
         ensures pass { Stays self.now pass.old pass.new × (pass.new.taken ≡ pass.old.taken) }
-        ensures step { pass.new.view ≡ changed (ev.StoreValue (rec_of pass.old.view.held) k word) (map (valued k word) pass.old.view.held) pass.old.view }
+        ensures step { pass.new.view ≡ grown (ev.StoreValue (rec_of pass.old.view.held) k word) pass.old.view }
     {
         let Some(taken) = pass.taken else {
             unreachable!()
@@ -189,7 +218,7 @@ impl<'b, B: BookView> Round<'b, B> {
     pub fn store_tag(&self, pass: &mut Pass, word: u64)
         requires { IsPassOf self.now pass.old × IsSome pass.old.taken }
         ensures pass { Stays self.now pass.old pass.new × (pass.new.taken ≡ pass.old.taken) }
-        ensures step { pass.new.view ≡ changed (ev.StoreTag (rec_of pass.old.view.held) word) (map (tagged word) pass.old.view.held) pass.old.view }
+        ensures step { pass.new.view ≡ grown (ev.StoreTag (rec_of pass.old.view.held) word) pass.old.view }
     {
         let Some(taken) = pass.taken else {
             unreachable!()
@@ -208,10 +237,11 @@ impl<'b, B: BookView> Round<'b, B> {
         requires seen { Seen pass.old.view i (word.Claimed claimer) }
         requires spelt { IsSome pass.old.taken × HasSpelt (shown_in self.now.setup i) pass.old.view }
         ensures pass { Stays self.now pass.old pass.new }
-        ensures step { pass.new.view ≡ changed (ev.Publish i (rec_of pass.old.view.held) result) (held_after result pass.old.view.held) pass.old.view }
+        ensures step { pass.new.view ≡ grown (ev.Publish i (rec_of pass.old.view.held) result) pass.old.view }
         ensures taken { pass.new.taken ≡ taken_after result pass.old.taken }
         ensures lost { LostTo claimer pass.old.view result }
         ensures later { Each pass.old.view.events (AgreesLost i result) }
+        ensures exact { HasTurn pass.old.view → result ≡ publish_answer (cell_in pass.old.view.words i) }
     {
         let Some(rec) = pass.taken else {
             unreachable!()
@@ -236,8 +266,9 @@ impl<'b, B: BookView> Round<'b, B> {
     pub fn load_tag(&self, pass: &mut Pass, rec: u32) -> u64
         requires { IsPassOf self.now pass.old × (rec < length self.now.setup.cells + self.now.setup.workers) }
         ensures pass { Stays self.now pass.old pass.new × (pass.new.taken ≡ pass.old.taken) }
-        ensures step { pass.new.view ≡ noted (ev.LoadTag rec result) pass.old.view }
-        ensures shown { (i : ℕ) → SeenDone pass.old.view i rec → result ≡ tag_of (shown_in self.now.setup i) }
+        ensures step { pass.new.view ≡ grown (ev.LoadTag rec result) pass.old.view }
+        ensures shown { (i : ℕ) → SeenDone pass.old.view i rec → (result ≡ tag_of (shown_in self.now.setup i)) × IsShown (shown_in self.now.setup i) }
+        ensures exact { HasTurn pass.old.view → result ≡ slice_index pass.old.view.words.tags rec }
     {
         let at = self.tag_place(rec);
         self.table.shared.load::<LoadsTag>(&mut pass.seat, at)
@@ -247,20 +278,34 @@ impl<'b, B: BookView> Round<'b, B> {
     pub fn load_value(&self, pass: &mut Pass, rec: u32, k: u32) -> u64
         requires { IsPassOf self.now pass.old × (rec < length self.now.setup.cells + self.now.setup.workers) × (k < WORDS) }
         ensures pass { Stays self.now pass.old pass.new × (pass.new.taken ≡ pass.old.taken) }
-        ensures step { pass.new.view ≡ noted (ev.LoadValue rec k result) pass.old.view }
-        ensures shown { (i : ℕ) → SeenDone pass.old.view i rec → k < record_words (shown_in self.now.setup i) → result ≡ value_of (shown_in self.now.setup i) k }
+        ensures step { pass.new.view ≡ grown (ev.LoadValue rec k result) pass.old.view }
+        ensures shown { (i : ℕ) → SeenDone pass.old.view i rec → k < record_words (shown_in self.now.setup i) → (result ≡ value_of (shown_in self.now.setup i) k) × IsShown (shown_in self.now.setup i) }
+        ensures exact { HasTurn pass.old.view → result ≡ slice_index pass.old.view.words.values (value_place rec k) }
     {
         let at = self.value_place(rec, k);
         self.table.shared.load::<LoadsValue>(&mut pass.seat, at)
     }
 
-    // The next pass, split off the opening seat.
-    fn deal(&self, seat: &mut Seat<(), View>, worker: u8) -> Pass
-        requires { (seat.old.table_id ≡ self.now.table) × (seat.old.me.0 ≡ waiting self.now worker) × (worker < self.now.setup.workers) }
-        ensures pass { IsFresh self.now result × (result.worker ≡ worker) }
-        ensures seat { (seat.new.table_id ≡ self.now.table) × (seat.new.me.0 ≡ waiting self.now (worker + 1)) }
+    // A seat with the next number, split off the opening seat.
+    fn cut_seat(&self, seat: &mut Seat<(), View>, at_once: bool) -> Seat<(), View>
+        requires { (seat.old.table_id ≡ self.now.table) × (seat.old.me.0.events ≡ []) × (seat.old.me.0.held ≡ []) × (1 ≤ seat.old.me.0.parts) }
+        ensures seat { (seat.new.table_id ≡ self.now.table) × (seat.new.me ≡ (kept_back at_once seat.old.me.0, seat.old.me.1)) }
+        ensures given { (result.table_id ≡ self.now.table) × (result.me ≡ (given_on at_once seat.old.me.0, [])) }
     {
-        let given = self.table.shared.split_seat::<Deals>(seat);
+        if at_once {
+            self.table.shared.split_seat::<Deals>(seat)
+        } else {
+            self.table.shared.split_seat::<DealsIdle>(seat)
+        }
+    }
+
+    // The next pass.
+    fn deal(&self, seat: &mut Seat<(), View>, worker: u8, at_once: bool) -> Pass
+        requires { (seat.old.table_id ≡ self.now.table) × (seat.old.me ≡ (waiting at_once self.now worker, [])) × (worker < self.now.setup.workers) × (worker < 64) }
+        ensures pass { IsGiven at_once self.now result × (result.worker ≡ worker) }
+        ensures seat { (seat.new.table_id ≡ self.now.table) × (seat.new.me ≡ (waiting at_once self.now (worker + 1), [])) }
+    {
+        let given = self.cut_seat(seat, at_once);
         Pass {
             worker,
             taken: None,
@@ -268,15 +313,52 @@ impl<'b, B: BookView> Round<'b, B> {
         }
     }
 
-    fn deal_all(&self, alloc: Global, mut seat: Seat<(), View>) -> Result<Vec<Pass>, AllocError>
-        requires { (seat.table_id ≡ self.now.table) × (seat.me.0 ≡ waiting self.now 0) }
-        ensures { IfOk result (λ v. All (IsFresh self.now) v.items × (map number v.items ≡ count_from self.now.setup.workers 0)) }
+    fn deal_all(
+        &self,
+        alloc: Global,
+        seat: &mut Seat<(), View>,
+        at_once: bool,
+    ) -> Result<Vec<Pass>, AllocError>
+        requires { (seat.old.table_id ≡ self.now.table) × (seat.old.me ≡ (waiting at_once self.now 0, [])) }
+        ensures passes { IfOk result (λ v. All (IsGiven at_once self.now) v.items × (map number v.items ≡ count_from self.now.setup.workers 0)) }
+        ensures seat { OnOk result ((seat.new.table_id ≡ self.now.table) × (seat.new.me ≡ (waiting at_once self.now self.now.setup.workers, []))) }
     {
         let mut passes = Vec::with_capacity(alloc, self.workers as usize)?;
         for w in 0..self.workers {
-            passes.push(self.deal(&mut seat, w))?;
+            passes.push(self.deal(seat, w, at_once))?;
         }
         Ok(passes)
+    }
+
+    // A round, its passes, and the seat that all of them were split off.
+    fn open_with(
+        alloc: Global,
+        job: Job<'b, B>,
+        workers: u8,
+        at_once: bool,
+    ) -> Result<(Round<'b, B>, Vec<Pass>, Seat<(), View>), AllocError>
+        requires { (1 ≤ workers) × (workers ≤ 64) }
+        ensures round { IfOk result (λ t. (t.0.setup.book ≡ B.book job.entry.book.now) × (t.0.setup.cells ≡ job.entry.cells.now) × (t.0.setup.workers ≡ workers)) }
+        ensures passes { IfOk result (λ t. All (IsGiven at_once t.0) t.1.items × (map number t.1.items ≡ count_from workers 0)) }
+        ensures seat { IfOk result (λ t. (t.2.table_id ≡ t.0.table) × (t.2.me ≡ (waiting at_once t.0 workers, []))) }
+    {
+        let cells = job.cells.len();
+        let records = cells + workers as usize;
+        let size = 1 + (cells + (records + records * WORDS as usize));
+        let words = vec![in alloc; 0u64; size]?;
+        let copied = Vec::from_slice(alloc, job.cells)?;
+        let room = Vec::with_capacity(alloc, cells)?;
+        let key = RoundKey { job, workers };
+        let (table, mut seat) = Table::of_words(alloc, words.as_slice(), &key)?;
+        let round = Round {
+            table,
+            job,
+            workers,
+            cells: copied,
+            room,
+        };
+        let passes = round.deal_all(alloc, &mut seat, at_once)?;
+        Ok((round, passes, seat))
     }
 
     /// Opens a round of these cells, with a pass for each worker.
@@ -289,23 +371,46 @@ impl<'b, B: BookView> Round<'b, B> {
         ensures round { IfOk result (λ t. (t.0.setup.book ≡ B.book job.entry.book.now) × (t.0.setup.cells ≡ job.entry.cells.now) × (t.0.setup.workers ≡ workers)) }
         ensures passes { IfOk result (λ t. All (IsFresh t.0) t.1.items × (map number t.1.items ≡ count_from workers 0)) }
     {
-        let cells = job.cells.len();
-        let records = cells + workers as usize;
-        let size = 1 + (cells + (records + records * WORDS as usize));
-        let words = vec![in alloc; 0u64; size]?;
-        let copied = Vec::from_slice(alloc, job.cells)?;
-        let room = Vec::with_capacity(alloc, cells)?;
-        let key = RoundKey { job, workers };
-        let (table, seat) = Table::of_words(alloc, words.as_slice(), &key)?;
-        let round = Round {
-            table,
-            job,
-            workers,
-            cells: copied,
-            room,
-        };
-        let passes = round.deal_all(alloc, seat)?;
+        let (round, passes, _) = Round::open_with(alloc, job, workers, true)?;
         Ok((round, passes))
+    }
+
+    /// The same, for passes that step one at a time: each only while it has the turn.
+    pub fn open_in_order(
+        alloc: Global,
+        job: Job<'b, B>,
+        workers: u8,
+    ) -> Result<(Round<'b, B>, Vec<Pass>, Turn), AllocError>
+        requires { (1 ≤ workers) × (workers ≤ 64) }
+        ensures round { IfOk result (λ t. (t.0.setup.book ≡ B.book job.entry.book.now) × (t.0.setup.cells ≡ job.entry.cells.now) × (t.0.setup.workers ≡ workers)) }
+        ensures passes { IfOk result (λ t. All (IsIdle t.0) t.1.items × (map number t.1.items ≡ count_from workers 0)) }
+        ensures turn { IfOk result (λ t. IsTurnOf t.0 t.2 × (t.2.words ≡ first_words t.0.setup)) }
+    {
+        let (round, passes, seat) = Round::open_with(alloc, job, workers, false)?;
+        Ok((round, passes, Turn { seat }))
+    }
+
+    /// Gives the turn to a pass.
+    pub fn take_turn(&self, pass: &mut Pass, turn: Turn)
+        requires { Belongs self.now pass.old × IsTurnOf self.now turn }
+        ensures pass { Stays self.now pass.old pass.new × (pass.new.taken ≡ pass.old.taken) }
+        ensures view { pass.new.view ≡ in_turn turn.words pass.old.view }
+    {
+        let Turn { seat } = turn;
+        self.table
+            .shared
+            .join_seat::<TakesTurn>(&mut pass.seat, seat);
+    }
+
+    /// Takes the turn from a pass.
+    pub fn give_turn(&self, pass: &mut Pass) -> Turn
+        requires { Belongs self.now pass.old × HasTurn pass.old.view }
+        ensures pass { Belongs self.now pass.new × (pass.new.worker ≡ pass.old.worker) × (pass.new.taken ≡ pass.old.taken) }
+        ensures view { pass.new.view ≡ idle pass.old.view }
+        ensures turn { IsTurnOf self.now result × (result.words ≡ pass.old.view.words) }
+    {
+        let seat = self.table.shared.split_seat::<GivesTurn>(&mut pass.seat);
+        Turn { seat }
     }
 
     // What the rule knows of a seat's own view.
@@ -318,7 +423,7 @@ impl<'b, B: BookView> Round<'b, B> {
 
     // One seat that has taken in all these passes.
     fn gather(&self, mut passes: Vec<Pass>) -> Seat<(), View>
-        requires { All (IsPassOf self.now) passes.items × (0 < vec_len passes) }
+        requires { All (Belongs self.now) passes.items × (0 < vec_len passes) }
         ensures { (result.table_id ≡ self.now.table) × (result.me.0 ≡ joined passes.items) × Each passes.items (λ p. OwnEvents p.view) × (setup_of result.me.0 ≡ self.now.setup) }
     {
         let Some(last) = passes.pop() else {
@@ -352,12 +457,13 @@ impl<'b, B: BookView> Round<'b, B> {
 
     /// Ends the round. It takes all passes.
     pub fn close(self, passes: Vec<Pass>) -> Outcome
-        requires { All (IsPassOf self) passes.items × (vec_len passes ≡ self.setup.workers) }
+        requires { All (Belongs self) passes.items × (vec_len passes ≡ self.setup.workers) }
         ensures over { result.setup ≡ self.entry.setup }
         ensures count { length result.words ≡ length self.entry.setup.cells }
         ensures claims { Each passes.items (ListsClaims result.words) }
         ensures publishes { Each passes.items (ListsPublishes result.words) }
         ensures stands { Each passes.items (λ p. Each p.view.events (Fits result.words)) }
+        ensures numbers { Each result.words (WorkersBelow self.entry.setup.workers) }
         ensures done { Each passes.items (λ p. SeesAllDone (length result.words) p.view → Each result.words (λ c. is_done c ≡ 1)) }
     {
         let mut seat = self.gather(passes);

@@ -1,5 +1,7 @@
-// The rule of the table, and what each step tells.
-ghost use Rattle.claim_core.specs.Steps.{kept_back, given_on, both, spent, stub};
+//! The rule of the table, and what each step tells.
+
+ghost use Rattle.std.specs.Prelude.{true, false};
+ghost use Rattle.claim_core.specs.Steps.{kept_back, given_on, both, spent, stub, idle, turn_of, with_turn};
 ghost use Rattle.claim_core.specs.Plays.{looks, claims, takes, stores_tag, stores_value, publishes, loads_tag, loads_value, learns};
 
 use crate::job::Job;
@@ -83,13 +85,40 @@ impl Play<(), View> for LoadsValue {
     ghost then = { loads_value };
 }
 
-/// The next number goes to a new pass.
+/// The next number goes to a new pass, which may step at once.
 pub struct Deals;
 
 impl Split<View> for Deals {
-    ghost left = { kept_back };
+    ghost left = { kept_back true };
 
-    ghost right = { given_on };
+    ghost right = { given_on true };
+}
+
+/// The same, and the new pass steps only with the turn.
+pub struct DealsIdle;
+
+impl Split<View> for DealsIdle {
+    ghost left = { kept_back false };
+
+    ghost right = { given_on false };
+}
+
+/// A pass gives the turn.
+pub struct GivesTurn;
+
+impl Split<View> for GivesTurn {
+    ghost left = { idle };
+
+    ghost right = { turn_of };
+}
+
+/// A pass takes the turn.
+pub struct TakesTurn;
+
+impl Join<View> for TakesTurn {
+    ghost both = { with_turn };
+
+    ghost spent = { spent };
 }
 
 /// A seat with no number is split off, which keeps what the round was over.

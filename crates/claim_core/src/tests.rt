@@ -1,16 +1,20 @@
 //! A client of two cells and two passes.
-ghost use Rattle.std.specs.Prelude.{◌≡◌, ◌<◌, [], map, length, All, IsNone, IsSome, MatchOption};
-ghost use Rattle.cell_words.specs.declared.cell_word.CellWord.TheVariants as word;
-ghost use Rattle.cell_values.specs.Addresses.{same_addr};
-ghost use Rattle.claim_core.specs.Rule.{Seen, shown_in};
-ghost use Rattle.claim_core.specs.Steps.{HasSpelt};
-ghost use Rattle.claim_core.specs.Seen.{IsPassOf, IsFresh, Stays, number};
-ghost use Rattle.claim_core.specs.Table.{count_from};
-ghost use Rattle.claim_core.specs.Client.{SeesMore, IsClaimed, SawDone, Carries, Starts};
 
-use crate::{Claim, Job, Pass, Publish, Round};
+ghost use Rattle.std.specs.Prelude.{◌≡◌, ◌+◌, ◌<◌, [], map, length, slice_index, Some, All, IsNone, IsSome, IfSome, MatchOption};
+ghost use Rattle.cell_words.specs.declared.cell_word.CellWord.TheVariants as word;
+ghost use Rattle.cell_words.specs.Records.{tag_of, value_of};
+ghost use Rattle.claim_core.specs.declared.event.Claim.TheVariants as answer;
+ghost use Rattle.claim_core.specs.declared.event.Publish.TheVariants as publish;
+ghost use Rattle.cell_values.specs.Addresses.{same_addr};
+ghost use Rattle.claim_core.specs.Rule.{Seen, SeenDone, shown_in, cell_in};
+ghost use Rattle.claim_core.specs.Steps.{HasSpelt, rec_of};
+ghost use Rattle.claim_core.specs.Passes.{IsPassOf, IsFresh, IsIdle, IsTurnOf, Stays, number};
+ghost use Rattle.claim_core.specs.Table.{count_from, first_words};
+ghost use Rattle.claim_core.specs.TestClient.{SeesMore, IsClaimed, SawDone, Carries, Starts, Waits, Turns, two_words};
+
+use crate::{Claim, Job, Pass, Publish, Round, Turn};
 use cell_values::{Addr, Shown, Value};
-use cell_words::{CellWord, read_record, record_tag, record_value};
+use cell_words::{CellWord, read_record, record_tag, record_value, record_words, tag_words};
 use demand_spec::BookView;
 use std::process::Abort;
 use std::thread::{Threads, join_mut};
@@ -42,7 +46,7 @@ fn same(a: Addr, b: Addr) -> bool
 
 impl BookView for TwoCells {
     ghost use Rattle.claim_core.specs.Table.{count_from};
-    ghost use Rattle.claim_core.specs.Client.{two_cells};
+    ghost use Rattle.claim_core.specs.TestClient.{two_cells};
 
     ghost book = { λ _. two_cells };
 
@@ -125,7 +129,9 @@ fn spells<'b, B: BookView>(round: &Round<'b, B>, pass: &mut Pass, shown: Shown)
     ensures more { SeesMore pass.old.view pass.new.view }
     ensures spelt { HasSpelt shown pass.new.view }
 {
-    round.store_value(pass, 0, record_value(shown, 0));
+    for k in 0..record_words(shown) {
+        round.store_value(pass, k, record_value(shown, k));
+    }
     round.store_tag(pass, record_tag(shown));
 }
 
@@ -146,20 +152,53 @@ fn publishes<'b, B: BookView, R: Abort>(
     assert!(rt; round.publish(pass, i, claimer) == answer);
 }
 
-// The record tells what is shown.
-fn reads<'b, B: BookView, R: Abort>(
-    rt: &R,
+// Looks at a cell. Where it is done, the words of its record say what the book shows there.
+fn reads<'b, B: BookView>(round: &Round<'b, B>, pass: &mut Pass, i: u32) -> Option<Shown>
+    requires { IsPassOf round.now pass.old × (i < length round.now.setup.cells) }
+    ensures pass { Stays round.now pass.old pass.new × (pass.new.taken ≡ pass.old.taken) }
+    ensures shown { IfSome result (λ s. s ≡ shown_in round.now.setup i) }
+{
+    let CellWord::Done { rec, .. } = round.look(pass, i) else {
+        return None;
+    };
+    decodes(round, pass, i, rec)
+}
+
+// Loads the words of the record with which a cell was seen done, and decodes them.
+fn decodes<'b, B: BookView>(
     round: &Round<'b, B>,
     pass: &mut Pass,
+    i: u32,
     rec: u32,
-    shown: Shown,
-)
-    requires { IsPassOf round.now pass.old × (rec < length round.now.setup.cells) }
+) -> Option<Shown>
+    requires { IsPassOf round.now pass.old × (rec < length round.now.setup.cells + round.now.setup.workers) × SeenDone pass.old.view i rec }
     ensures pass { Stays round.now pass.old pass.new × (pass.new.taken ≡ pass.old.taken) }
+    ensures shown { result ≡ Some (shown_in round.now.setup i) }
 {
     let tag = round.load_tag(pass, rec);
-    let value = round.load_value(pass, rec, 0);
-    assert!(rt; read_record(tag, [value]) == Some(shown));
+    let low = round.load_value(pass, rec, 0);
+    let high = loads_high(round, pass, i, rec, tag);
+    read_record(tag, &[low, high])
+}
+
+// The second value word of that record. It is 0 where the tag says that it is not stored.
+fn loads_high<'b, B: BookView>(
+    round: &Round<'b, B>,
+    pass: &mut Pass,
+    i: u32,
+    rec: u32,
+    tag: u64,
+) -> u64
+    requires pass { IsPassOf round.now pass.old × (rec < length round.now.setup.cells + round.now.setup.workers) × SeenDone pass.old.view i rec }
+    requires tag { tag ≡ tag_of (shown_in round.now.setup i) }
+    ensures pass { Stays round.now pass.old pass.new × (pass.new.taken ≡ pass.old.taken) }
+    ensures word { result ≡ value_of (shown_in round.now.setup i) 1 }
+{
+    let _cell = i;
+    if tag_words(tag) < 2 {
+        return 0;
+    }
+    round.load_value(pass, rec, 1)
 }
 
 // One pass after the other.
@@ -182,7 +221,7 @@ fn one_by_one<'b, B: BookView, R: Abort>(
     spells(round, a, first);
     publishes(rt, round, a, 0, 0, Publish::Won);
     sees(rt, round, b, 0, done(0, 0, 0));
-    reads(rt, round, b, 0, first);
+    assert!(rt; reads(round, b, 0) == Some(first));
     wins(rt, round, b, 1, 1);
     assert!(rt; takes(round, b) == 1);
     spells(round, b, second);
@@ -217,7 +256,7 @@ fn at_once<'b, B: BookView, R: Abort>(
         rec: 0,
     };
     publishes(rt, round, a, 0, 0, lost);
-    reads(rt, round, a, 0, first);
+    assert!(rt; reads(round, a, 0) == Some(first));
 }
 
 // Each claims a cell and publishes the other's.
@@ -246,6 +285,105 @@ fn crossed<'b, B: BookView, R: Abort>(
     publishes(rt, round, a, 1, 1, Publish::Won);
     sees(rt, round, a, 0, done(1, 0, 0));
     sees(rt, round, b, 1, done(0, 1, 1));
+}
+
+// The first pass, in its turn, looks at the first cell, claims it, takes a record and writes it.
+fn claims_first<'b, B: BookView>(
+    round: &Round<'b, B>,
+    a: &mut Pass,
+    turn: Turn,
+    shown: Shown,
+) -> (CellWord, Claim, u32, Turn)
+    requires pass { Waits round.now a.old 0 × IsNone a.old.taken }
+    requires turn { Turns round.now turn (two_words 0 word.Stale word.Stale 0 0 0) }
+    ensures pass { Waits round.now a.new 0 × (a.new.taken ≡ Some 0) × (rec_of a.new.view.held ≡ 0) }
+    ensures seen { Seen a.new.view 0 (word.Claimed 0) × HasSpelt shown a.new.view }
+    ensures found { (result.0 ≡ word.Stale) × (result.1 ≡ answer.Won) × (result.2 ≡ 0) }
+    ensures turn { Turns round.now result.3 (two_words 1 (word.Claimed 0) word.Stale (tag_of shown) (value_of shown 0) (value_of shown 1)) }
+{
+    round.take_turn(a, turn);
+    let seen = round.look(a, 0);
+    let claim = round.claim(a, 0);
+    let taken = round.take_record(a);
+    round.store_value(a, 0, record_value(shown, 0));
+    round.store_value(a, 1, record_value(shown, 1));
+    round.store_tag(a, record_tag(shown));
+    let turn = round.give_turn(a);
+    (seen, claim, taken, turn)
+}
+
+// The first pass, in its turn, publishes the first cell.
+fn publishes_first<'b, B: BookView>(
+    round: &Round<'b, B>,
+    a: &mut Pass,
+    turn: Turn,
+    shown: Shown,
+) -> (Publish, Turn)
+    requires pass { Waits round.now a.old 0 × (a.old.taken ≡ Some 0) × (rec_of a.old.view.held ≡ 0) × (shown ≡ shown_in round.now.setup 0) }
+    requires seen { Seen a.old.view 0 (word.Claimed 0) × HasSpelt shown a.old.view }
+    requires turn { Turns round.now turn (two_words 1 (word.Claimed 0) word.Stale (tag_of shown) (value_of shown 0) (value_of shown 1)) }
+    ensures pass { Waits round.now a.new 0 }
+    ensures found { result.0 ≡ publish.Won }
+    ensures turn { Turns round.now result.1 (two_words 1 (word.Done 0 0 0) word.Stale (tag_of shown) (value_of shown 0) (value_of shown 1)) }
+{
+    round.take_turn(a, turn);
+    let answer = round.publish(a, 0, 0);
+    let turn = round.give_turn(a);
+    (answer, turn)
+}
+
+// The second pass, in its turn, looks at the first cell.
+fn looks_second<'b, B: BookView>(round: &Round<'b, B>, b: &mut Pass, turn: Turn) -> (CellWord, Turn)
+    requires { Waits round.now b.old 1 × IsTurnOf round.now turn }
+    ensures pass { Waits round.now b.new 1 }
+    ensures found { result.0 ≡ cell_in turn.words 0 }
+    ensures turn { Turns round.now result.1 turn.words }
+{
+    round.take_turn(b, turn);
+    let seen = round.look(b, 0);
+    let turn = round.give_turn(b);
+    (seen, turn)
+}
+
+// The second pass, in its turn, claims the first cell and loads the words of the first record.
+fn loads_second<'b, B: BookView>(
+    round: &Round<'b, B>,
+    b: &mut Pass,
+    turn: Turn,
+) -> (Claim, u64, u64, Turn)
+    requires pass { Waits round.now b.old 1 × IsTurnOf round.now turn }
+    requires done { cell_in turn.words 0 ≡ word.Done 0 0 0 }
+    ensures pass { Waits round.now b.new 1 }
+    ensures found { (result.0 ≡ answer.Found (word.Done 0 0 0)) × (result.1 ≡ slice_index turn.words.tags 0) × (result.2 ≡ slice_index turn.words.values 1) }
+    ensures turn { Turns round.now result.3 turn.words }
+{
+    round.take_turn(b, turn);
+    let claim = round.claim(b, 0);
+    let tag = round.load_tag(b, 0);
+    let value = round.load_value(b, 0, 1);
+    let turn = round.give_turn(b);
+    (claim, tag, value, turn)
+}
+
+// Two passes in turns, from all words 0 on: what each step finds is what the steps before it made of the words.
+fn by_turns<'b, B: BookView>(
+    round: &Round<'b, B>,
+    a: &mut Pass,
+    b: &mut Pass,
+    turn: Turn,
+    shown: Shown,
+) -> (CellWord, CellWord, Publish, CellWord, u64)
+    requires passes { Waits round.now a.old 0 × IsNone a.old.taken × Waits round.now b.old 1 × (shown ≡ shown_in round.now.setup 0) }
+    requires turn { Turns round.now turn (first_words round.now.setup) }
+    ensures passes { Waits round.now a.new 0 × Waits round.now b.new 1 }
+    ensures found { (result.0 ≡ word.Stale) × (result.1 ≡ word.Claimed 0) × (result.2 ≡ publish.Won) × (result.3 ≡ word.Done 0 0 0) × (result.4 ≡ tag_of shown) }
+{
+    let (first, _, _, turn) = claims_first(round, a, turn, shown);
+    let (second, turn) = looks_second(round, b, turn);
+    let (answer, turn) = publishes_first(round, a, turn, shown);
+    let (third, turn) = looks_second(round, b, turn);
+    let (_, tag, _, _) = loads_second(round, b, turn);
+    (first, second, answer, third, tag)
 }
 
 // Looks at a cell and claims it where it is stale: the claimer, or none where it is done.
@@ -342,6 +480,36 @@ fn closes<'b, B: BookView, R: Abort>(
     assert!(rt; outcome.word(1) == words.1);
 }
 
+// The two passes of a round of two cells that was opened to be stepped in an order.
+fn both_idle<'b, B: BookView, R: Abort>(
+    rt: &R,
+    round: &Round<'b, B>,
+    passes: &mut Vec<Pass>,
+) -> (Pass, Pass)
+    requires passes { All (IsIdle round.now) passes.old.items × (map number passes.old.items ≡ count_from 2 0) }
+    requires round { (length round.now.setup.cells ≡ 2) × (round.now.setup.workers ≡ 2) }
+    ensures passes { Waits round.now result.0 0 × IsNone result.0.taken × Waits round.now result.1 1 }
+    ensures rest { passes.new.items ≡ [] }
+{
+    let b = passes.pop().expect(rt, "a second pass");
+    let a = passes.pop().expect(rt, "a first pass");
+    (a, b)
+}
+
+#[test]
+fn two_passes_by_turns(rt: HostRuntime) {
+    let cells = [FIRST, SECOND];
+    let job = Job::new(&TwoCells, &cells);
+    let (round, mut passes, turn) = Round::open_in_order(rt.alloc(), job, 2).expect(&rt, "memory");
+    let (mut a, mut b) = both_idle(&rt, &round, &mut passes);
+    let (first, second, answer, third, tag) = by_turns(&round, &mut a, &mut b, turn, SEVEN);
+    assert!(rt; first == CellWord::Stale);
+    assert!(rt; second == CellWord::Claimed(0));
+    assert!(rt; answer == Publish::Won);
+    assert!(rt; third == done(0, 0, 0));
+    assert!(rt; tag == 1);
+}
+
 #[test]
 fn an_opened_round(rt: HostRuntime) {
     let cells = [FIRST, SECOND];
@@ -393,5 +561,6 @@ fn two_threads_at_one_cell(rt: HostRuntime) {
     two_threads(&rt, &round, &mut a, &mut b, SEVEN);
     let word = round.look(&mut a, 0);
     assert!(rt; matches!(word, CellWord::Done { .. }));
+    assert!(rt; reads(&round, &mut a, 0) == Some(SEVEN));
     closes(&rt, round, passes, a, b, (word, CellWord::Stale));
 }

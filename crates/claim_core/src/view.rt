@@ -1,6 +1,8 @@
-// What a pass knows. No value of these types is made.
+//! What a pass knows. No value of these types is made.
+
 use crate::event::Event;
 use cell_values::Addr;
+use cell_words::CellWord;
 use std::collections::LinkedList;
 use std::marker::Model;
 
@@ -40,8 +42,19 @@ pub struct Held {
     pub values: LinkedList<StoredWord>,
 }
 
+/// The words of a round, read: how many records are taken, each cell's word, each record's tag word,
+/// and the value words of the records, record by record.
+pub struct RoundWords {
+    pub counter: u64,
+    pub cells: LinkedList<CellWord>,
+    pub tags: LinkedList<u64>,
+    pub values: LinkedList<u64>,
+}
+
 /// What a pass knows: the book, the cells and the number of workers of the round, and beside them the
 /// workers' numbers that it has, the events in their order, and the records that it holds.
+/// A pass steps only with a part of the turn. Where it has all parts,
+/// `words` are the words of the round.
 pub struct View {
     pub book: PassBook,
     pub cells: LinkedList<Addr>,
@@ -49,4 +62,6 @@ pub struct View {
     pub numbers: LinkedList<u8>,
     pub events: LinkedList<Made>,
     pub held: LinkedList<Held>,
+    pub parts: u8,
+    pub words: RoundWords,
 }

@@ -86,7 +86,7 @@ pub follow_from : (b : Book) (c x : Addr) → need b c ≡ Some x → (j : ℕ) 
 follow_from b c x e zero = e
 follow_from b c x e (suc j) = ap (go_on b) (follow_from b c x e j)
 
--- `n` steps are `i` steps and then the other `j`
+-- following on from where `i` steps lead
 pub follow_then : (b : Book) (i : ℕ) (c x : Addr) → follow b i c ≡ Some x → (j n : ℕ) → n ≡ j + i → follow b n c ≡ follow b j x
 follow_then b i c x e zero n q = (let same : n ≡ i = omega arith in subst (λ z. follow b z c ≡ Some x) (sym same) e)
 follow_then b i c x e (suc j) zero q = absurd (omega arith)

@@ -1,7 +1,6 @@
 //! Calls, one value at a time.
 ghost use Rattle.std.specs.Prelude.{◌≡◌, ◌<◌, IfSome, Some, length, true};
 ghost use Rattle.cell_values.specs.Areas.{IsArea};
-ghost use Rattle.cell_values.specs.Texts.{Texts};
 ghost use Rattle.cell_values.specs.Values.{IsValueOf};
 ghost use Rattle.builtin_functions.specs.Folds.{taken};
 ghost use Rattle.demand_spec.specs.Formula.{is_found};
@@ -10,50 +9,15 @@ ghost use Rattle.formula_trees.specs.declared.place.Place.TheVariants.{Cells};
 ghost use Rattle.formula_trees.specs.Mentions.{HasArea};
 ghost use Rattle.formula_eval.specs.Machine.{first_number, second_number, turn_of, fold_of, place_named, is_lookup, fun_of, index_below, across, Holds, IsOperand, range_of, Starts, TurnGoesOn, FoldGoesOn, CellsGoOn, SearchGoesOn, LookupGoesOn, Waits, Instead};
 
-use crate::cells::{first_cell, line_cell, next_cell, place_at};
+use crate::cells::{first_cell, line_cell};
 use crate::frames::Frames;
+use crate::site::{Call, Site};
 use crate::work::{Frame, Step, Work};
 use builtin_functions::operators::same;
 use builtin_functions::{Fold, FoldKind, Go};
-use cell_values::{Addr, Area, Code, Int, Texts, Value};
+use cell_values::{Area, Code, Int, Texts, Value};
 use formula_trees::{Fun, Place};
-use shared_expressions::{ExprId, Node, Pool};
-
-/// A child is evaluated while its parent waits.
-pub fn wait_for(frames: &mut Frames, pool: &Pool, id: ExprId, k: u32, work: Work) -> Step
-    requires { length frames.old.frames < frames.old.room }
-    ensures waits { Waits pool.now id work (child_of k (tree_at pool.now id)) frames.old.frames result frames.new.frames }
-    ensures room { frames.new.room ≡ frames.old.room }
-{
-    match pool.child(id, k) {
-        Some(child) => {
-            frames.push(Frame::At(id, work));
-            Step::Eval(child)
-        }
-        None => Step::Give(Value::Error(Code::Value)),
-    }
-}
-
-/// A child in place of its parent.
-pub fn child_instead(pool: &Pool, id: ExprId, k: u32, other: Value) -> Step
-    ensures { Instead pool.now (child_of k (tree_at pool.now id)) other result }
-{
-    match pool.child(id, k) {
-        Some(child) => Step::Eval(child),
-        None => Step::Give(other),
-    }
-}
-
-/// Where an argument of a call stands.
-pub fn range(pool: &Pool, id: ExprId, k: u32, at: Addr) -> Place
-    ensures same { result ≡ place_named at (child_of k (tree_at pool.now id)) }
-    ensures within { HasArea result }
-{
-    match pool.child(id, k) {
-        Some(child) => place_at(pool, child, at),
-        None => Place::Nowhere,
-    }
-}
+use shared_expressions::{ExprId, Node};
 
 /// Which argument a call demands first.
 fn first_number(fun: Fun) -> u32
@@ -164,142 +128,178 @@ pub fn is_found(key: Value, v: Value, texts: &Texts) -> bool
     }
 }
 
-/// A call is begun.
-pub fn start_call(frames: &mut Frames, pool: &Pool, id: ExprId, at: Addr, fun: Fun) -> Step
-    requires holds { Holds frames.old.room (length frames.old.frames) (tree_at pool.now id) }
-    requires call { root_of (tree_at pool.now id) ≡ Node.Call fun }
-    ensures starts { (ts : Texts) → Starts pool.now ts at id frames.old.frames result frames.new.frames }
-    ensures room { frames.new.room ≡ frames.old.room }
-{
-    match turn_of(fun) {
-        Some(going) => turn_on(frames, pool, id, at, going, 0),
-        None => match fold_of(fun) {
-            Some(kind) => fold_on(frames, pool, id, at, kind, 0, None),
-            None => wait_for(frames, pool, id, first_number(fun), Work::First),
-        },
-    }
-}
-
-/// AND or OR goes on from an argument.
-pub fn turn_on(frames: &mut Frames, pool: &Pool, id: ExprId, at: Addr, going: bool, k: u16) -> Step
-    requires holds { Holds frames.old.room (length frames.old.frames) (tree_at pool.now id) }
-    requires call { turn_of (fun_of (tree_at pool.now id)) ≡ Some going }
-    ensures goes { (ts : Texts) → TurnGoesOn pool.now ts at id going k frames.old.frames result frames.new.frames }
-    ensures room { frames.new.room ≡ frames.old.room }
-{
-    match pool.child(id, u32::from(k)) {
-        None => Step::Give(Value::Bool(going)),
-        Some(child) => {
-            frames.push(Frame::At(id, Work::Turn(k + 1)));
-            Step::Eval(child)
-        }
-    }
-}
-
-/// A fold goes on from an argument.
-pub fn fold_on(
-    frames: &mut Frames,
-    pool: &Pool,
-    id: ExprId,
-    at: Addr,
-    kind: FoldKind,
-    k: u16,
-    total: Option<Int>,
-) -> Step
-    requires holds { Holds frames.old.room (length frames.old.frames) (tree_at pool.now id) }
-    requires call { fold_of (fun_of (tree_at pool.now id)) ≡ Some kind }
-    ensures goes { (ts : Texts) → FoldGoesOn pool.now ts at id kind k total frames.old.frames result frames.new.frames }
-    ensures room { frames.new.room ≡ frames.old.room }
-{
-    match pool.child(id, u32::from(k)) {
-        None => Step::Give(Fold { kind, total }.end()),
-        Some(child) => match place_at(pool, child, at) {
-            Place::Cells(area) => {
-                frames.push(Frame::At(id, Work::Cell(k, 1, total)));
-                Step::Look(first_cell(area))
-            }
-            Place::Bad => Step::Give(Value::Error(Code::Ref)),
-            Place::Nowhere => {
-                frames.push(Frame::At(id, Work::Argument(k + 1, total)));
+impl<'a> Site<'a> {
+    /// A child is evaluated while its parent waits.
+    pub fn wait_for(&self, frames: &mut Frames, id: ExprId, k: u32, work: Work) -> Step
+        requires { length frames.old.frames < frames.old.room }
+        ensures waits { Waits self.now.pool.now id work (child_of k (tree_at self.now.pool.now id)) frames.old.frames result frames.new.frames }
+        ensures room { frames.new.room ≡ frames.old.room }
+    {
+        match self.pool.child(id, k) {
+            Some(child) => {
+                frames.push(Frame::At(id, work));
                 Step::Eval(child)
             }
-        },
+            None => Step::Give(Value::Error(Code::Value)),
+        }
     }
-}
 
-/// A fold goes on from a cell of an argument.
-pub fn cells_on(
-    frames: &mut Frames,
-    pool: &Pool,
-    id: ExprId,
-    at: Addr,
-    kind: FoldKind,
-    k: u16,
-    n: u32,
-    total: Option<Int>,
-) -> Step
-    requires holds { Holds frames.old.room (length frames.old.frames) (tree_at pool.now id) }
-    requires call { fold_of (fun_of (tree_at pool.now id)) ≡ Some kind }
-    ensures goes { (ts : Texts) → CellsGoOn pool.now ts at id kind k n total frames.old.frames result frames.new.frames }
-    ensures room { frames.new.room ≡ frames.old.room }
-{
-    match pool.child(id, u32::from(k)) {
-        None => Step::Give(Fold { kind, total }.end()),
-        Some(child) => match next_cell(pool, child, at, n) {
-            Some(a) => {
-                frames.push(Frame::At(id, Work::Cell(k, n + 1, total)));
-                Step::Look(a)
+    /// A child in place of its parent.
+    pub fn child_instead(&self, id: ExprId, k: u32, other: Value) -> Step
+        ensures { Instead self.now.pool.now (child_of k (tree_at self.now.pool.now id)) other result }
+    {
+        match self.pool.child(id, k) {
+            Some(child) => Step::Eval(child),
+            None => Step::Give(other),
+        }
+    }
+
+    /// Where an argument of a call stands.
+    pub fn range(&self, id: ExprId, k: u32) -> Place
+        ensures same { result ≡ place_named self.now.at (child_of k (tree_at self.now.pool.now id)) }
+        ensures within { HasArea result }
+    {
+        match self.pool.child(id, k) {
+            Some(child) => self.place_at(child),
+            None => Place::Nowhere,
+        }
+    }
+
+    /// A call is begun.
+    pub fn start_call(&self, frames: &mut Frames, call: Call) -> Step
+        requires holds { Holds frames.old.room (length frames.old.frames) (tree_at self.now.pool.now call.id) }
+        requires call { root_of (tree_at self.now.pool.now call.id) ≡ Node.Call call.fun }
+        ensures starts { Starts self.now.pool.now self.now.texts.now self.now.at call.id frames.old.frames result frames.new.frames }
+        ensures room { frames.new.room ≡ frames.old.room }
+    {
+        match turn_of(call.fun) {
+            Some(going) => self.turn_on(frames, call.id, going, 0),
+            None => match fold_of(call.fun) {
+                Some(kind) => self.fold_on(frames, call.id, kind, 0, None),
+                None => self.wait_for(frames, call.id, first_number(call.fun), Work::First),
+            },
+        }
+    }
+
+    /// AND or OR goes on from an argument.
+    pub fn turn_on(&self, frames: &mut Frames, id: ExprId, going: bool, k: u16) -> Step
+        requires holds { Holds frames.old.room (length frames.old.frames) (tree_at self.now.pool.now id) }
+        requires call { turn_of (fun_of (tree_at self.now.pool.now id)) ≡ Some going }
+        ensures goes { TurnGoesOn self.now.pool.now self.now.texts.now self.now.at id going k frames.old.frames result frames.new.frames }
+        ensures room { frames.new.room ≡ frames.old.room }
+    {
+        match self.pool.child(id, u32::from(k)) {
+            None => Step::Give(Value::Bool(going)),
+            Some(child) => {
+                frames.push(Frame::At(id, Work::Turn(k + 1)));
+                Step::Eval(child)
             }
-            None => fold_on(frames, pool, id, at, kind, k + 1, total),
-        },
+        }
     }
-}
 
-/// MATCH goes on from a cell.
-pub fn search_on(frames: &mut Frames, pool: &Pool, id: ExprId, at: Addr, key: Value, n: u32) -> Step
-    requires holds { Holds frames.old.room (length frames.old.frames) (tree_at pool.now id) }
-    requires call { root_of (tree_at pool.now id) ≡ Node.Call Fun.Match }
-    ensures goes { (ts : Texts) → IsOperand ts key → SearchGoesOn pool.now ts at id key n frames.old.frames result frames.new.frames }
-    ensures room { frames.new.room ≡ frames.old.room }
-{
-    match pool.child(id, 1) {
-        None => Step::Give(Value::Error(Code::Na)),
-        Some(child) => match next_cell(pool, child, at, n) {
+    /// A fold goes on from an argument.
+    pub fn fold_on(
+        &self,
+        frames: &mut Frames,
+        id: ExprId,
+        kind: FoldKind,
+        k: u16,
+        total: Option<Int>,
+    ) -> Step
+        requires holds { Holds frames.old.room (length frames.old.frames) (tree_at self.now.pool.now id) }
+        requires call { fold_of (fun_of (tree_at self.now.pool.now id)) ≡ Some kind }
+        ensures goes { FoldGoesOn self.now.pool.now self.now.texts.now self.now.at id kind k total frames.old.frames result frames.new.frames }
+        ensures room { frames.new.room ≡ frames.old.room }
+    {
+        match self.pool.child(id, u32::from(k)) {
+            None => Step::Give(Fold { kind, total }.end()),
+            Some(child) => match self.place_at(child) {
+                Place::Cells(area) => {
+                    frames.push(Frame::At(id, Work::Cell(k, 1, total)));
+                    Step::Look(first_cell(area))
+                }
+                Place::Bad => Step::Give(Value::Error(Code::Ref)),
+                Place::Nowhere => {
+                    frames.push(Frame::At(id, Work::Argument(k + 1, total)));
+                    Step::Eval(child)
+                }
+            },
+        }
+    }
+
+    /// A fold goes on from a cell of an argument.
+    pub fn cells_on(
+        &self,
+        frames: &mut Frames,
+        id: ExprId,
+        kind: FoldKind,
+        k: u16,
+        n: u32,
+        total: Option<Int>,
+    ) -> Step
+        requires holds { Holds frames.old.room (length frames.old.frames) (tree_at self.now.pool.now id) }
+        requires call { fold_of (fun_of (tree_at self.now.pool.now id)) ≡ Some kind }
+        ensures goes { CellsGoOn self.now.pool.now self.now.texts.now self.now.at id kind k n total frames.old.frames result frames.new.frames }
+        ensures room { frames.new.room ≡ frames.old.room }
+    {
+        match self.pool.child(id, u32::from(k)) {
+            None => Step::Give(Fold { kind, total }.end()),
+            Some(child) => match self.next_cell(child, n) {
+                Some(a) => {
+                    frames.push(Frame::At(id, Work::Cell(k, n + 1, total)));
+                    Step::Look(a)
+                }
+                None => self.fold_on(frames, id, kind, k + 1, total),
+            },
+        }
+    }
+
+    /// MATCH goes on from a cell.
+    pub fn search_on(&self, frames: &mut Frames, id: ExprId, key: Value, n: u32) -> Step
+        requires holds { Holds frames.old.room (length frames.old.frames) (tree_at self.now.pool.now id) }
+        requires call { root_of (tree_at self.now.pool.now id) ≡ Node.Call Fun.Match }
+        requires key { IsOperand self.now.texts.now key }
+        ensures goes { SearchGoesOn self.now.pool.now self.now.texts.now self.now.at id key n frames.old.frames result frames.new.frames }
+        ensures room { frames.new.room ≡ frames.old.room }
+    {
+        match self.pool.child(id, 1) {
+            None => Step::Give(Value::Error(Code::Na)),
+            Some(child) => match self.next_cell(child, n) {
+                Some(a) => {
+                    frames.push(Frame::At(id, Work::Search(n + 1, key)));
+                    Step::Look(a)
+                }
+                None => Step::Give(Value::Error(Code::Na)),
+            },
+        }
+    }
+
+    /// A lookup goes on from a cell of its line.
+    pub fn lookup_on(
+        &self,
+        frames: &mut Frames,
+        call: Call,
+        area: Area,
+        key: Value,
+        m: u16,
+        n: u32,
+    ) -> Step
+        requires holds { Holds frames.old.room (length frames.old.frames) (tree_at self.now.pool.now call.id) }
+        requires call { root_of (tree_at self.now.pool.now call.id) ≡ Node.Call call.fun }
+        requires lookup { is_lookup call.fun ≡ true }
+        requires range { range_of self.now.at (tree_at self.now.pool.now call.id) ≡ Cells area }
+        requires area { IsArea area }
+        requires line { m < across call.fun area }
+        requires key { IsOperand self.now.texts.now key }
+        ensures goes { LookupGoesOn self.now.pool.now self.now.texts.now self.now.at call.id call.fun area key m n frames.old.frames result frames.new.frames }
+        ensures room { frames.new.room ≡ frames.old.room }
+    {
+        match line_cell(call.fun, area, n) {
             Some(a) => {
-                frames.push(Frame::At(id, Work::Search(n + 1, key)));
+                frames.push(Frame::At(call.id, Work::Lookup(m, n, key)));
                 Step::Look(a)
             }
             None => Step::Give(Value::Error(Code::Na)),
-        },
-    }
-}
-
-/// A lookup goes on from a cell of its line.
-pub fn lookup_on(
-    frames: &mut Frames,
-    pool: &Pool,
-    id: ExprId,
-    at: Addr,
-    fun: Fun,
-    area: Area,
-    key: Value,
-    m: u16,
-    n: u32,
-) -> Step
-    requires holds { Holds frames.old.room (length frames.old.frames) (tree_at pool.now id) }
-    requires call { root_of (tree_at pool.now id) ≡ Node.Call fun }
-    requires lookup { is_lookup fun ≡ true }
-    requires range { range_of at (tree_at pool.now id) ≡ Cells area }
-    requires area { IsArea area }
-    requires line { m < across fun area }
-    ensures goes { (ts : Texts) → IsOperand ts key → LookupGoesOn pool.now ts at id fun area key m n frames.old.frames result frames.new.frames }
-    ensures room { frames.new.room ≡ frames.old.room }
-{
-    match line_cell(fun, area, n) {
-        Some(a) => {
-            frames.push(Frame::At(id, Work::Lookup(m, n, key)));
-            Step::Look(a)
         }
-        None => Step::Give(Value::Error(Code::Na)),
     }
 }

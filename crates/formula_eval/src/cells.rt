@@ -6,22 +6,10 @@ ghost use Rattle.shared_expressions.specs.Trees.{tree_at};
 ghost use Rattle.formula_eval.specs.Machine.{line_of, target_of, across, FirstCell};
 ghost use Rattle.formula_trees.specs.Mentions.{HasArea};
 
+use crate::site::Site;
 use cell_values::{Addr, Area};
 use formula_trees::{Fun, Place, area_of, place_from};
-use shared_expressions::{ExprId, Node, Pool};
-
-/// Where an argument stands.
-pub fn place_at(pool: &Pool, id: ExprId, at: Addr) -> Place
-    ensures same { result ≡ place_of at (tree_at pool.now id) }
-    ensures within { HasArea result }
-{
-    match pool.node(id) {
-        Node::Ref(r) => place_from(area_of(&r, &r, at)),
-        Node::Range(r, s) => place_from(area_of(&r, &s, at)),
-        Node::RefError => Place::Bad,
-        _ => Place::Nowhere,
-    }
-}
+use shared_expressions::{ExprId, Node};
 
 /// The first cell of an area.
 #[tactic(auto, using(cell_values::proofs::Walking::walk_some))]
@@ -30,23 +18,6 @@ pub fn first_cell(area: Area) -> Addr
     ensures { drop 0 (walk area) ≡ result ∷ drop (0 + 1) (walk area) }
 {
     area.nth(0)
-}
-
-/// The cell of an argument with a number.
-pub fn next_cell(pool: &Pool, id: ExprId, at: Addr, n: u32) -> Option<Addr>
-    ensures same { FirstCell (drop n (cells_of (place_of at (tree_at pool.now id)))) (drop (n + 1) (cells_of (place_of at (tree_at pool.now id)))) result }
-    ensures few { IfSome result (λ a. n < 2 ^ 31) }
-{
-    match place_at(pool, id, at) {
-        Place::Cells(area) => {
-            if n < area.size() {
-                Some(area.nth(n))
-            } else {
-                None
-            }
-        }
-        _ => None,
-    }
 }
 
 /// How many columns, or for HLOOKUP rows, a lookup may name.
@@ -95,5 +66,37 @@ pub fn target(fun: Fun, area: Area, m: u32, n: u32) -> Addr
     match fun {
         Fun::HLookup => area.cell(m, n),
         _ => area.cell(n, m),
+    }
+}
+
+impl<'a> Site<'a> {
+    /// Where an argument stands.
+    pub fn place_at(&self, id: ExprId) -> Place
+        ensures same { result ≡ place_of self.now.at (tree_at self.now.pool.now id) }
+        ensures within { HasArea result }
+    {
+        match self.pool.node(id) {
+            Node::Ref(r) => place_from(area_of(&r, &r, self.at)),
+            Node::Range(r, s) => place_from(area_of(&r, &s, self.at)),
+            Node::RefError => Place::Bad,
+            _ => Place::Nowhere,
+        }
+    }
+
+    /// The cell of an argument with a number.
+    pub fn next_cell(&self, id: ExprId, n: u32) -> Option<Addr>
+        ensures same { FirstCell (drop n (cells_of (place_of self.now.at (tree_at self.now.pool.now id)))) (drop (n + 1) (cells_of (place_of self.now.at (tree_at self.now.pool.now id)))) result }
+        ensures few { IfSome result (λ a. n < 2 ^ 31) }
+    {
+        match self.place_at(id) {
+            Place::Cells(area) => {
+                if n < area.size() {
+                    Some(area.nth(n))
+                } else {
+                    None
+                }
+            }
+            _ => None,
+        }
     }
 }

@@ -8,6 +8,7 @@ mod cells;
 mod continuations;
 pub mod frames;
 mod machine;
+mod site;
 #[cfg(test)]
 mod spelled;
 #[cfg(test)]

@@ -13,9 +13,8 @@ ghost use Rattle.formula_eval.specs.Stacks.{IsShut, dropped};
 ghost use Rattle.formula_eval.specs.Machine.{Fits, Holds, IsMeant, WorkFits, Starts, GoesOn};
 ghost use Rattle.formula_eval.specs.Evaluations.{found_as, MeansValue, Turns, Comes, Answered, Stands, HasOpen, demanded, rest_of};
 
-use crate::calls::{start_call, wait_for};
-use crate::continuations::call_on;
 use crate::frames::Frames;
+use crate::site::{Call, Site};
 use crate::work::{Frame, Step, Work};
 use cell_values::{Addr, Code, Texts, Value};
 use demand_spec::{Asked, operator_value, sign_value};
@@ -49,109 +48,89 @@ pub trait Known {
         ensures looks { looks self.new ≡ min (looks self.old + 1) 18446744073709551615 };
 }
 
-/// An expression is begun.
-fn start(frames: &mut Frames, pool: &Pool, id: ExprId, at: Addr) -> Step
-    requires { Holds frames.old.room (length frames.old.frames) (tree_at pool.now id) }
-    ensures starts { (ts : Texts) → Starts pool.now ts at id frames.old.frames result frames.new.frames }
-    ensures room { frames.new.room ≡ frames.old.room }
-{
-    match pool.node(id) {
-        Node::Number(n) => Step::Give(Value::Number(n)),
-        Node::Text(t) => Step::Give(Value::Text(t)),
-        Node::Bool(b) => Step::Give(Value::Bool(b)),
-        Node::Ref(reference) => match resolve(&reference, at) {
-            Some(a) => Step::Look(a),
-            None => Step::Give(Value::Error(Code::Ref)),
-        },
-        Node::Range(_, _) => Step::Give(Value::Error(Code::Value)),
-        Node::RefError => Step::Give(Value::Error(Code::Ref)),
-        Node::Unary(_) => wait_for(frames, pool, id, 0, Work::First),
-        Node::Binary(_) => wait_for(frames, pool, id, 0, Work::First),
-        Node::Call(fun) => start_call(frames, pool, id, at, fun),
+impl<'a> Site<'a> {
+    /// An expression is begun.
+    fn start(&self, frames: &mut Frames, id: ExprId) -> Step
+        requires { Holds frames.old.room (length frames.old.frames) (tree_at self.now.pool.now id) }
+        ensures starts { Starts self.now.pool.now self.now.texts.now self.now.at id frames.old.frames result frames.new.frames }
+        ensures room { frames.new.room ≡ frames.old.room }
+    {
+        match self.pool.node(id) {
+            Node::Number(n) => Step::Give(Value::Number(n)),
+            Node::Text(t) => Step::Give(Value::Text(t)),
+            Node::Bool(b) => Step::Give(Value::Bool(b)),
+            Node::Ref(reference) => match resolve(&reference, self.at) {
+                Some(a) => Step::Look(a),
+                None => Step::Give(Value::Error(Code::Ref)),
+            },
+            Node::Range(_, _) => Step::Give(Value::Error(Code::Value)),
+            Node::RefError => Step::Give(Value::Error(Code::Ref)),
+            Node::Unary(_) => self.wait_for(frames, id, 0, Work::First),
+            Node::Binary(_) => self.wait_for(frames, id, 0, Work::First),
+            Node::Call(fun) => self.start_call(frames, Call { id, fun }),
+        }
     }
-}
 
-/// A node goes on with a value.
-fn go_on(
-    frames: &mut Frames,
-    pool: &Pool,
-    texts: &Texts,
-    id: ExprId,
-    work: Work,
-    v: Value,
-    at: Addr,
-) -> Step
-    requires holds { Holds frames.old.room (length frames.old.frames) (tree_at pool.now id) }
-    requires work { WorkFits texts.now at (tree_at pool.now id) work }
-    requires value { IsValueOf texts.now v }
-    ensures goes { GoesOn pool.now texts.now at id work v frames.old.frames result frames.new.frames }
-    ensures room { frames.new.room ≡ frames.old.room }
-{
-    match (pool.node(id), work) {
-        (Node::Unary(sign), Work::First) => Step::Give(sign_value(sign, v)),
-        (Node::Binary(_), Work::First) => match v.is_error() {
-            true => Step::Give(v),
-            false => wait_for(frames, pool, id, 1, Work::Second(v)),
-        },
-        (Node::Binary(op), Work::Second(x)) => Step::Give(operator_value(op, x, v, texts)),
-        (Node::Call(fun), _) => call_on(frames, pool, texts, id, at, fun, work, v),
-        _ => Step::Give(Value::Error(Code::Value)),
+    /// A node goes on with a value.
+    fn go_on(&self, frames: &mut Frames, id: ExprId, work: Work, v: Value) -> Step
+        requires holds { Holds frames.old.room (length frames.old.frames) (tree_at self.now.pool.now id) }
+        requires work { WorkFits self.now.texts.now self.now.at (tree_at self.now.pool.now id) work }
+        requires value { IsValueOf self.now.texts.now v }
+        ensures goes { GoesOn self.now.pool.now self.now.texts.now self.now.at id work v frames.old.frames result frames.new.frames }
+        ensures room { frames.new.room ≡ frames.old.room }
+    {
+        match (self.pool.node(id), work) {
+            (Node::Unary(sign), Work::First) => Step::Give(sign_value(sign, v)),
+            (Node::Binary(_), Work::First) => match v.is_error() {
+                true => Step::Give(v),
+                false => self.wait_for(frames, id, 1, Work::Second(v)),
+            },
+            (Node::Binary(op), Work::Second(x)) => Step::Give(operator_value(op, x, v, self.texts)),
+            (Node::Call(fun), _) => self.call_on(frames, Call { id, fun }, work, v),
+            _ => Step::Give(Value::Error(Code::Value)),
+        }
     }
-}
 
-/// One turn of the machine.
-fn turn<K: Known>(
-    frames: &mut Frames,
-    pool: &Pool,
-    texts: &Texts,
-    at: Addr,
-    step: Step,
-    known: &mut K,
-) -> Result<Step, Asked>
-    requires fits { Fits pool.now texts.now at frames.old.room step frames.old.frames }
-    requires texts { texts.now ≡ (K.book known.old).texts }
-    ensures turns { Turns pool.now texts.now at (look (K.book known.old) (K.values known.old)) step frames.old.frames result frames.new.frames (K.looks known.old) (K.looks known.new) }
-    ensures room { frames.new.room ≡ frames.old.room }
-    ensures book { K.book known.new ≡ K.book known.old }
-    ensures values { K.values known.new ≡ K.values known.old }
-{
-    match step {
-        Step::Eval(id) => Ok(start(frames, pool, id, at)),
-        Step::Give(v) => match frames.pop() {
-            None => Err(Asked::Val(v)),
-            Some((id, work)) => Ok(go_on(frames, pool, texts, id, work, v, at)),
-        },
-        Step::Look(a) => match known.look(a) {
-            Look::Val(v) => Ok(Step::Give(v)),
-            Look::Missing => {
-                frames.push(Frame::Opened(at, a));
-                Err(Asked::Needs(a))
+    /// One turn of the machine.
+    fn turn<K: Known>(&self, frames: &mut Frames, step: Step, known: &mut K) -> Result<Step, Asked>
+        requires fits { Fits self.now.pool.now self.now.texts.now self.now.at frames.old.room step frames.old.frames }
+        requires texts { self.now.texts.now ≡ (K.book known.old).texts }
+        ensures turns { Turns self.now.pool.now self.now.texts.now self.now.at (look (K.book known.old) (K.values known.old)) step frames.old.frames result frames.new.frames (K.looks known.old) (K.looks known.new) }
+        ensures room { frames.new.room ≡ frames.old.room }
+        ensures book { K.book known.new ≡ K.book known.old }
+        ensures values { K.values known.new ≡ K.values known.old }
+    {
+        match step {
+            Step::Eval(id) => Ok(self.start(frames, id)),
+            Step::Give(v) => match frames.pop() {
+                None => Err(Asked::Val(v)),
+                Some((id, work)) => Ok(self.go_on(frames, id, work, v)),
+            },
+            Step::Look(a) => match known.look(a) {
+                Look::Val(v) => Ok(Step::Give(v)),
+                Look::Missing => {
+                    frames.push(Frame::Opened(self.at, a));
+                    Err(Asked::Needs(a))
+                }
+            },
+        }
+    }
+
+    /// The machine, from a step on.
+    fn run<K: Known>(&self, frames: &mut Frames, first: Step, known: &mut K) -> Asked
+        requires fits { Fits self.now.pool.now self.now.texts.now self.now.at frames.old.room first frames.old.frames }
+        requires texts { self.now.texts.now ≡ (K.book known.old).texts }
+        ensures comes { Comes self.now.pool.now self.now.texts.now self.now.at (look (K.book known.old) (K.values known.old)) first frames.old.frames result frames.new.frames (K.looks known.old) (K.looks known.new) }
+        ensures room { frames.new.room ≡ frames.old.room }
+        ensures book { K.book known.new ≡ K.book known.old }
+        ensures values { K.values known.new ≡ K.values known.old }
+    {
+        let mut step = first;
+        loop {
+            match self.turn(frames, step, known) {
+                Ok(next) => step = next,
+                Err(answer) => return answer,
             }
-        },
-    }
-}
-
-/// The machine, from a step on.
-fn run<K: Known>(
-    frames: &mut Frames,
-    pool: &Pool,
-    texts: &Texts,
-    at: Addr,
-    first: Step,
-    known: &mut K,
-) -> Asked
-    requires fits { Fits pool.now texts.now at frames.old.room first frames.old.frames }
-    requires texts { texts.now ≡ (K.book known.old).texts }
-    ensures comes { Comes pool.now texts.now at (look (K.book known.old) (K.values known.old)) first frames.old.frames result frames.new.frames (K.looks known.old) (K.looks known.new) }
-    ensures room { frames.new.room ≡ frames.old.room }
-    ensures book { K.book known.new ≡ K.book known.old }
-    ensures values { K.values known.new ≡ K.values known.old }
-{
-    let mut step = first;
-    loop {
-        match turn(frames, pool, texts, at, step, known) {
-            Ok(next) => step = next,
-            Err(answer) => return answer,
         }
     }
 }
@@ -179,7 +158,8 @@ pub fn begin<K: Known>(
     ensures book { K.book known.new ≡ K.book known.old }
     ensures values { K.values known.new ≡ K.values known.old }
 {
-    run(frames, pool, texts, at, Step::Eval(id), known)
+    let site = Site { pool, texts, at };
+    site.run(frames, Step::Eval(id), known)
 }
 
 /// Goes on with the last open evaluation at the cell that it needs. What was known at its earlier calls is
@@ -195,7 +175,10 @@ pub fn resume<K: Known>(frames: &mut Frames, pool: &Pool, texts: &Texts, known: 
 {
     match frames.reopen() {
         None => Asked::Val(Value::Blank),
-        Some((at, need)) => run(frames, pool, texts, at, Step::Look(need), known),
+        Some((at, need)) => {
+            let site = Site { pool, texts, at };
+            site.run(frames, Step::Look(need), known)
+        }
     }
 }
 

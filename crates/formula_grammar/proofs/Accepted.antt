@@ -2,6 +2,8 @@
 use Rattle.std.proofs.Common.{◌≡◌, ℕ, ◌+◌, ◌-◌, ◌≤◌, List, [], ◌∷◌, Bool, true, false, Ok, Err, Option, Some, None, zero, suc, nat_le, le-leb, refl, sym, ap, ◌∙◌, subst, arith, append-nil}
 use Rattle.std.specs.List.{AllByRecursion}
 use Rattle.cell_values.specs.declared.address.Addr.{Addr}
+use Rattle.cell_values.specs.declared.TheConstants.{MAX_RANGE_CELLS}
+use Rattle.formula_trees.specs.declared.TheConstants.{MAX_NODES, MAX_LEVELS}
 use Rattle.formula_trees.specs.Expr.{Expr}
 use Rattle.formula_tokens.specs.declared.token.Spot.{Spot}
 use Rattle.formula_tokens.specs.declared.token.Token.{Token}
@@ -19,25 +21,25 @@ abbrev AreInside : List Token → Type 0
 AreInside ts = AllByRecursion (λ t. named_fault t ≡ None) ts
 
 abbrev AreLow : List Mark → Type 0
-AreLow ms = AllByRecursion (λ m. m.level ≤ 32) ms
+AreLow ms = AllByRecursion (λ m. m.level ≤ MAX_LEVELS) ms
 
 abbrev AreSmall : List Mark → Type 0
-AreSmall ms = AllByRecursion (λ m. m.cells ≤ 65536) ms
+AreSmall ms = AllByRecursion (λ m. m.cells ≤ MAX_RANGE_CELLS) ms
 
 -- what keeps within the limits behind n nodes
 record Keeps (ts : List Token) (n : ℕ) (ms : List Mark) : Type 0 where
   known : AreKnown ts
   inside : AreInside ts
   low : AreLow ms
-  few : n + total_nodes ms ≤ 512
+  few : n + total_nodes ms ≤ MAX_NODES
   small : AreSmall ms
 
 -- what an accepted run has passed
-passed : (ts : List Spot) (end n : ℕ) (s : State) → n ≤ 512 → run ts end n s ≡ accepted → Keeps (tokens_of ts) n (listed (walk true (tokens_of ts) s))
+passed : (ts : List Spot) (end n : ℕ) (s : State) → n ≤ MAX_NODES → run ts end n s ≡ accepted → Keeps (tokens_of ts) n (listed (walk true (tokens_of ts) s))
 passed [] end n s h e = record { known = tt; inside = tt; low = tt; few = omega (arith, h); small = tt }
 passed (t ∷ ts) end n s h e = by_step (λ s'. passed ts end (n + (mark_at s t.token).nodes) s') (step n s t.token) refl e
   where
-    by_step : ((s' : State) → n + (mark_at s t.token).nodes ≤ 512 → run ts end (n + (mark_at s t.token).nodes) s' ≡ accepted → Keeps (tokens_of ts) (n + (mark_at s t.token).nodes) (listed (walk true (tokens_of ts) s')))
+    by_step : ((s' : State) → n + (mark_at s t.token).nodes ≤ MAX_NODES → run ts end (n + (mark_at s t.token).nodes) s' ≡ accepted → Keeps (tokens_of ts) (n + (mark_at s t.token).nodes) (listed (walk true (tokens_of ts) s')))
         → (m : Move) → step n s t.token ≡ m → run_on (run ts end (n + (mark_at s t.token).nodes)) t.place m ≡ accepted → Keeps (tokens_of (t ∷ ts)) n (listed (walk true (tokens_of (t ∷ ts)) s))
     by_step go (Ok s') m e =
         let p = passes n s t.token s' m in
@@ -49,7 +51,7 @@ passed (t ∷ ts) end n s h e = by_step (λ s'. passed ts end (n + (mark_at s t.
 
 pub step_passes : (n : ℕ) (s : State) (t : Token) (s' : State) → Passes n s t s' → step n s t ≡ Ok s'
 step_passes n s t s' p =
-    by_case (is_bad t) (own_fault t) (named_fault t) (nat_le (mark_at s t).level 32) (nat_le (mark_at s t).nodes (512 - n)) (nat_le (mark_at s t).cells 65536) (move true s t) p.known p.inside (le-leb _ _ p.low) (le-leb _ _ p.few) (le-leb _ _ p.small) p.moved
+    by_case (is_bad t) (own_fault t) (named_fault t) (nat_le (mark_at s t).level MAX_LEVELS) (nat_le (mark_at s t).nodes (MAX_NODES - n)) (nat_le (mark_at s t).cells MAX_RANGE_CELLS) (move true s t) p.known p.inside (le-leb _ _ p.low) (le-leb _ _ p.few) (le-leb _ _ p.small) p.moved
   where
     by_case : (bad : Bool) (o l : Option FaultKind) (low few small : Bool) (m : Move) → o ≡ None → l ≡ None → low ≡ true → few ≡ true → small ≡ true → m ≡ Ok s' → checked bad o l low few small m ≡ Ok s'
     by_case bad None None true true true (Ok a) u i h f k e = e
@@ -64,7 +66,7 @@ step_passes n s t s' p =
 goes : (ts : List Spot) (end n : ℕ) (s : State) (ms : List Mark) → walk true (tokens_of ts) s ≡ prefixed ms (at (operator [])) → Keeps (tokens_of ts) n ms → run ts end n s ≡ accepted
 goes [] end n s [] e k =
     let h : s ≡ operator [] = cc in
-    let f : n ≤ 512 = omega (arith, k.few) in
+    let f : n ≤ MAX_NODES = omega (arith, k.few) in
     let o : step n (operator []) Token.End ≡ Ok finished = step_passes n (operator []) Token.End finished (record { moved = refl; known = refl; inside = refl; low = omega arith; few = omega (arith, f); small = omega arith }) in
     ap (at_end end) (ap (λ x. step n x Token.End) h ∙ o)
 goes [] end n s (m ∷ ms) e k = cc
@@ -103,5 +105,5 @@ accepted_reads own ts end e fits h a =
     let p = passed ts end 0 start (omega arith) a in
     let w = ap (λ x. walk true x start) (sym h ∙ sym (append-nil (spelling e))) ∙ walk-expression true e [] 0 [] refl fits in
     let l : listed (walk true (tokens_of ts) start) ≡ marks e 0 = ap listed w ∙ listed-prefixed (marks e 0) (at (operator [])) ∙ append-nil (marks e 0) in
-    let few = subst (λ x. 0 + total_nodes x ≤ 512) l p.few in
+    let few = subst (λ x. 0 + total_nodes x ≤ MAX_NODES) l p.few in
     record { expression = e; fits = fits; spelled = h; known = p.known; inside = p.inside; low = subst AreLow l p.low; few = omega (arith, few); small = subst AreSmall l p.small; means = refl }

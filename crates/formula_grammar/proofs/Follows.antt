@@ -2,6 +2,7 @@
 use Rattle.std.proofs.Common.{◌≡◌, ℕ, zero, suc, ◌+◌, ◌≤◌, List, [], ◌∷◌, ◌++◌, Bool, true, false, Ok, Err, Option, Some, None, IsTrue, ◌⊎◌, inl, inr, refl, sym, ap, ◌∙◌, arith, append_assoc, append-nil, nat_le, le-leb}
 use Rattle.std.specs.Prelude.{pos, nat_lt}
 use Rattle.std.proofs.lemmas.Bool.Decides.{nat_tests}
+use Rattle.formula_trees.specs.declared.levels.TheConstants.{COMPARISON_LEVEL, SUM_LEVEL, TERM_LEVEL}
 use Rattle.formula_trees.specs.declared.tree.Fun.{Fun}
 use Rattle.formula_trees.specs.declared.tree.Op.{Op}
 use Rattle.formula_trees.specs.declared.tree.Sign.{Sign}
@@ -15,7 +16,7 @@ use Rattle.formula_tokens.specs.declared.token.Word.{Word}
 use Rattle.formula_grammar.specs.Syntax.{kind_at, are_enough, may_go_on, is_ref_error, is_exact, Target, here, on_sheet, Expression, only_sum, compare, Sums, only_term, add, Term, only_signed, multiply, Signed, plain, signed, Primary, literal, reference, group, call_none, call, Arguments, last, more, Argument, value, cell, area, lone, sign_op, target_spelling, spelling, sums_spelling, term_spelling, signed_spelling, primary_spelling, arguments_spelling, argument_spelling, counted, IsOfKind, Fits, SumsFit, TermFits, SignedFits, PrimaryFits, ArgumentsFit, ArgumentFits}
 use Rattle.formula_grammar.specs.Steps.{Frame, in_group, in_call, State, operand, operator, named, opened, argument, sheet, corner, colon, ended, finished, Move, if_counted, on_lone, landed, sign_of, on_sign, on_operand, on_right, on_comma, on_end, on_close, on_operator, on_argument, on_sheet_word, on_no_range, on_corner, on_named, on_opened, on_colon, move}
 
-pub level_cases : (op : Op) → (op_level op ≡ 1) ⊎ (op_level op ≡ 2) ⊎ (op_level op ≡ 3)
+pub level_cases : (op : Op) → (op_level op ≡ COMPARISON_LEVEL) ⊎ (op_level op ≡ SUM_LEVEL) ⊎ (op_level op ≡ TERM_LEVEL)
 level_cases Op.Add = inr (inl refl)
 level_cases Op.Sub = inr (inl refl)
 level_cases Op.Mul = inr (inr refl)
@@ -133,7 +134,7 @@ module _ (strict : Bool) where
   tail_of : (op : Op) (e : Expression) → Fits strict e → IsTail (Token.Operator op ∷ spelling e)
   tail_of op e fit t fits = by_level (level_cases op)
     where
-      by_level : (op_level op ≡ 1) ⊎ (op_level op ≡ 2) ⊎ (op_level op ≡ 3) → (e' : Expression) × Fits strict e' × (spelling e' ≡ term_spelling t ++ Token.Operator op ∷ spelling e)
+      by_level : (op_level op ≡ COMPARISON_LEVEL) ⊎ (op_level op ≡ SUM_LEVEL) ⊎ (op_level op ≡ TERM_LEVEL) → (e' : Expression) × Fits strict e' × (spelling e' ≡ term_spelling t ++ Token.Operator op ∷ spelling e)
       by_level (inl l) =
           let r = lift_expression (term_spelling t ++ Token.Operator op ∷ []) (λ s f. (compare (only_sum (only_term t)) op s, (fits, l, f), sym (append_assoc (term_spelling t) (Token.Operator op ∷ []) _))) e fit in
           (r.0, r.1, r.2 ∙ append_assoc (term_spelling t) (Token.Operator op ∷ []) (spelling e))

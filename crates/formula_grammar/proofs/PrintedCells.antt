@@ -18,17 +18,19 @@ use Rattle.cell_values.specs.declared.address.Addr.{Addr}
 use Rattle.cell_values.specs.CellText.{column_number, column_letters}
 use Rattle.cell_values.specs.Texts.{Texts}
 use Rattle.cell_values.proofs.ReadBack.{column_letters_name, digits_no_letter}
+use Rattle.cell_values.specs.declared.TheConstants.{LAST_COLUMN, LAST_ROW}
 use Rattle.formula_trees.specs.declared.tree.Part.{Part}
 use Rattle.formula_trees.specs.declared.tree.Reference.{Reference}
 use Rattle.formula_trees.specs.References.{part_at, up_to, cell_at, resolve}
 use Rattle.formula_tokens.specs.declared.token.Corner.{Corner}
 use Rattle.formula_tokens.specs.declared.token.Word.{Word}
 use Rattle.formula_tokens.specs.Words.{begins_word, is_word_byte, leading, behind, begins_with, without_dollar, clipped, coordinate, corner_from, corner_of}
-use Rattle.formula_tokens.specs.Lexemes.{reference, plain_word}
+use Rattle.formula_tokens.specs.Lexemes.{Other, reference, plain_word}
 use Rattle.formula_grammar.specs.Printed.{dollar, cell_or_error}
 use Rattle.formula_grammar.specs.Syntax.{part}
-use Rattle.formula_grammar.proofs.PrintedTokens.{tokens_in}
-use Rattle.formula_grammar.proofs.PrintedWords.{closes, opens, is_word, run_leads, run_behind, plain_tokens}
+use Rattle.formula_tokens.proofs.Lexed.{lexemes_in}
+use Rattle.formula_tokens.specs.Spelling.{is_word}
+use Rattle.formula_tokens.proofs.LexedWords.{closes, opens, begins_not, closes_words, closes_call, run_leads, run_behind, plain_lexeme}
 
 abbrev pub is_absolute : Part → Bool
 is_absolute (Part.At n) = true
@@ -45,10 +47,10 @@ own = numerals_by_value _ tells_all_ascii_digits
 pub record Resolved (at : Addr) (r : Reference) (a : Addr) : Type 0 where
   pub row : part_at at.row r.row ≡ pos a.row
   pub row_from : 1 ≤ a.row
-  pub row_to : a.row ≤ 65536
+  pub row_to : a.row ≤ LAST_ROW
   pub col : part_at at.col r.col ≡ pos a.col
   pub col_from : 1 ≤ a.col
-  pub col_to : a.col ≤ 256
+  pub col_to : a.col ≤ LAST_COLUMN
 
 within : (most : ℕ) (z : ℤ) (n : ℕ) → up_to most z ≡ Some n → (z ≡ pos n) × (1 ≤ n) × (n ≤ most)
 within most (negsuc m) n h = cc
@@ -59,15 +61,15 @@ within most (pos m) n h =
 
 pub resolved : (at : Addr) (r : Reference) (a : Addr) → resolve at r ≡ Some a → Resolved at r a
 unfolding resolve
-resolved at r a h = by (up_to 65536 (part_at at.row r.row)) (up_to 256 (part_at at.col r.col)) refl refl h
+resolved at r a h = by (up_to LAST_ROW (part_at at.row r.row)) (up_to LAST_COLUMN (part_at at.col r.col)) refl refl h
   where
-    by : (row col : Option ℕ) → up_to 65536 (part_at at.row r.row) ≡ row → up_to 256 (part_at at.col r.col) ≡ col → cell_at (unwrap_or r.sheet at.sheet) row col ≡ Some a → Resolved at r a
+    by : (row col : Option ℕ) → up_to LAST_ROW (part_at at.row r.row) ≡ row → up_to LAST_COLUMN (part_at at.col r.col) ≡ col → cell_at (unwrap_or r.sheet at.sheet) row col ≡ Some a → Resolved at r a
     by None col e f g = cc
     by (Some m) None e f g = cc
     by (Some m) (Some n) e f g =
         let same = same_Some _ _ g in
-        let row = within 65536 (part_at at.row r.row) a.row (e ∙ ap (λ (c : Addr). Some c.row) same) in
-        let col = within 256 (part_at at.col r.col) a.col (f ∙ ap (λ (c : Addr). Some c.col) same) in
+        let row = within LAST_ROW (part_at at.row r.row) a.row (e ∙ ap (λ (c : Addr). Some c.row) same) in
+        let col = within LAST_COLUMN (part_at at.col r.col) a.col (f ∙ ap (λ (c : Addr). Some c.col) same) in
         record { row = row.0; row_from = row.1; row_to = row.2; col = col.0; col_from = col.1; col_to = col.2 }
 
 -- the part of the tree that a coordinate means
@@ -120,7 +122,7 @@ corner_row absolute letters p ds h =
     let bare = row_bare p ds h in
     ap (λ digits. corner_by absolute letters digits (begins_with 36 (dollar p ++ ds))) bare.0 ∙ ap (corner_by absolute letters ds) bare.1
 
-corner_made : (absolute fixed : Bool) (letters ds : List ℕ) (m n : ℕ) → 0 < length letters → 0 < length ds → all_ascii_digits ds ≡ true → column_number letters ≡ m → digits_value 10 ds ≡ n → m ≤ 256 → n ≤ 65536
+corner_made : (absolute fixed : Bool) (letters ds : List ℕ) (m n : ℕ) → 0 < length letters → 0 < length ds → all_ascii_digits ds ≡ true → column_number letters ≡ m → digits_value 10 ds ≡ n → m ≤ LAST_COLUMN → n ≤ LAST_ROW
     → corner_by absolute letters ds fixed ≡ Some (record { col = record { number = m; absolute = absolute }; row = record { number = n; absolute = fixed } })
 corner_made absolute fixed letters ds m n some few h e f low small =
     cond-true (nat_lt 0 (length letters) && nat_lt 0 (length ds) && all_ascii_digits ds) _ None (grind (arith, nat_tests))
@@ -154,24 +156,24 @@ is_word_cell (Part.By m) q l ls ds h d =
     let first = letter_begins l (and_parts (is_ascii_alphabetic l) (list_all is_ascii_alphabetic ls) h).0 in
     and_from (begins_word l) (list_all is_word_byte ((l ∷ ls) ++ (dollar q ++ ds))) first.0 (words_join (l ∷ ls) (dollar q ++ ds) (letter_words (l ∷ ls) h) (dollar_words q ds (digit_words ds d)))
 
-reference_tokens : (names : List (List ℕ)) (ts : Texts) (prefixed : Bool) (w rest : List ℕ) (c : Corner) → is_word w ≡ true → closes rest ≡ true → corner_of w ≡ Some c → tokens_in names ts 0 prefixed (w ++ rest) ≡ reference prefixed (Word.Cell c) ∷ tokens_in names ts 0 false rest
-reference_tokens names ts true w rest c h k e = plain_tokens names ts true w rest (reference true (Word.Cell c)) h k (ap (plain_word true w) e) refl refl
-reference_tokens names ts false w rest c h k e = plain_tokens names ts false w rest (reference false (Word.Cell c)) h k (ap (plain_word false w) e) refl refl
+reference_lexeme : (names : List (List ℕ)) (prefixed : Bool) (w rest : List ℕ) (c : Corner) → is_word w ≡ true → closes rest ≡ true → corner_of w ≡ Some c → lexemes_in names 0 prefixed (w ++ rest) ≡ Other (reference prefixed (Word.Cell c)) ∷ lexemes_in names 0 false rest
+reference_lexeme names true w rest c h k e = plain_lexeme names true w rest (reference true (Word.Cell c)) h (closes_words rest k) (begins_not 33 rest k refl) (closes_call rest k) (ap (plain_word true w) e) refl refl
+reference_lexeme names false w rest c h k e = plain_lexeme names false w rest (reference false (Word.Cell c)) h (closes_words rest k) (begins_not 33 rest k refl) (closes_call rest k) (ap (plain_word false w) e) refl refl
 
-word_tokens : (names : List (List ℕ)) (ts : Texts) (prefixed : Bool) (p q : Part) (letters ds rest : List ℕ) (m n : ℕ) → 0 < length letters → list_all is_ascii_alphabetic letters ≡ true → 0 < length ds → all_ascii_digits ds ≡ true
-    → column_number letters ≡ m → digits_value 10 ds ≡ n → m ≤ 256 → n ≤ 65536 → closes rest ≡ true
-    → tokens_in names ts 0 prefixed ((dollar p ++ (letters ++ (dollar q ++ ds))) ++ rest) ≡ reference prefixed (Word.Cell (record { col = record { number = m; absolute = is_absolute p }; row = record { number = n; absolute = is_absolute q } })) ∷ tokens_in names ts 0 false rest
-word_tokens names ts prefixed p q [] ds rest m n some h few d e f low small c = absurd (omega arith)
-word_tokens names ts prefixed p q (l ∷ ls) ds rest m n some h few d e f low small c =
-    reference_tokens names ts prefixed (dollar p ++ ((l ∷ ls) ++ (dollar q ++ ds))) rest _ (is_word_cell p q l ls ds h d) c
+word_lexeme : (names : List (List ℕ)) (prefixed : Bool) (p q : Part) (letters ds rest : List ℕ) (m n : ℕ) → 0 < length letters → list_all is_ascii_alphabetic letters ≡ true → 0 < length ds → all_ascii_digits ds ≡ true
+    → column_number letters ≡ m → digits_value 10 ds ≡ n → m ≤ LAST_COLUMN → n ≤ LAST_ROW → closes rest ≡ true
+    → lexemes_in names 0 prefixed ((dollar p ++ (letters ++ (dollar q ++ ds))) ++ rest) ≡ Other (reference prefixed (Word.Cell (record { col = record { number = m; absolute = is_absolute p }; row = record { number = n; absolute = is_absolute q } }))) ∷ lexemes_in names 0 false rest
+word_lexeme names prefixed p q [] ds rest m n some h few d e f low small c = absurd (omega arith)
+word_lexeme names prefixed p q (l ∷ ls) ds rest m n some h few d e f low small c =
+    reference_lexeme names prefixed (dollar p ++ ((l ∷ ls) ++ (dollar q ++ ds))) rest _ (is_word_cell p q l ls ds h d) c
     (corner_whole p l ls (dollar q ++ ds) h (no_letters q ds d) ∙ corner_row (is_absolute p) (l ∷ ls) q ds d ∙ corner_made (is_absolute p) (is_absolute q) (l ∷ ls) ds m n some few d e f low small)
 
 -- a reference's text without its prefix
-pub cell_tokens : (names : List (List ℕ)) (ts : Texts) (prefixed : Bool) (at : Addr) (r : Reference) (a : Addr) (rest : List ℕ) → Resolved at r a → closes rest ≡ true → tokens_in names ts 0 prefixed (cell_or_error r (Some a) ++ rest) ≡ reference prefixed (Word.Cell (corner r a)) ∷ tokens_in names ts 0 false rest
-cell_tokens names ts prefixed at r a rest in_sheet c =
+pub cell_lexeme : (names : List (List ℕ)) (prefixed : Bool) (at : Addr) (r : Reference) (a : Addr) (rest : List ℕ) → Resolved at r a → closes rest ≡ true → lexemes_in names 0 prefixed (cell_or_error r (Some a) ++ rest) ≡ Other (reference prefixed (Word.Cell (corner r a))) ∷ lexemes_in names 0 false rest
+cell_lexeme names prefixed at r a rest in_sheet c =
     let named = column_letters_name a.col in_sheet.col_from in_sheet.col_to in
     let fits : a.row < 2 ^ 64 = omega (arith, in_sheet.row_to) in
-    word_tokens names ts prefixed r.col r.row (column_letters a.col) (decimal a.row) rest a.col a.row (some_letters a.col) named.all_letters (decimal_nonempty a.row fits) (digits_decimal own a.row fits)
+    word_lexeme names prefixed r.col r.row (column_letters a.col) (decimal a.row) rest a.col a.row (some_letters a.col) named.all_letters (decimal_nonempty a.row fits) (digits_decimal own a.row fits)
     named.value (digits_value-decimal own a.row fits) in_sheet.col_to in_sheet.row_to c
 
 letter_opens : (b : ℕ) (rest : List ℕ) → is_ascii_alphabetic b ≡ true → opens (b ∷ rest) ≡ true

@@ -1,5 +1,5 @@
 -- References and ranges as they are written.
-use Rattle.std.proofs.Common.{◌≡◌, ℕ, ◌+◌, ◌*◌, ◌<◌, ◌≤◌, true, false, List, [], ◌∷◌, ◌++◌, length, refl, ap, ap₂, sym, ◌∙◌, arith, Option, Some, None}
+use Rattle.std.proofs.Common.{◌≡◌, ℕ, ◌+◌, ◌*◌, ◌<◌, ◌≤◌, true, false, List, [], ◌∷◌, ◌++◌, length, map, refl, ap, ap₂, sym, ◌∙◌, arith, Option, Some, None}
 use Rattle.std.specs.Prelude.{codes, slice_index_or, IsSome, IsSomeAnd}
 use Rattle.std.specs.List.{AllByRecursion}
 use Rattle.std.proofs.lemmas.Bool.{cond-true}
@@ -9,6 +9,8 @@ use Rattle.cell_values.specs.declared.address.Addr.{Addr}
 use Rattle.cell_values.specs.Areas.{between_cells, height, width}
 use Rattle.cell_values.specs.Names.{AreSheetNames, is_good_name, prefix_text}
 use Rattle.cell_values.specs.Texts.{Texts}
+use Rattle.cell_values.specs.declared.TheConstants.{MAX_RANGE_CELLS}
+use Rattle.formula_trees.specs.declared.TheConstants.{MAX_LEVELS}
 use Rattle.formula_trees.specs.declared.tree.Reference.{Reference}
 use Rattle.formula_trees.specs.Expr.{Expr, Ref, Range}
 use Rattle.formula_trees.specs.References.{resolve, area_between}
@@ -17,15 +19,18 @@ use Rattle.formula_trees.specs.Sound.{IsRange}
 use Rattle.formula_tokens.specs.declared.token.Corner.{Corner}
 use Rattle.formula_tokens.specs.declared.token.Token.{Token}
 use Rattle.formula_tokens.specs.declared.token.Word.{Word}
+use Rattle.formula_tokens.specs.Lexemes.{Lexeme, Other}
+use Rattle.formula_tokens.specs.Tokens.{token_of, HoldsLiteral}
 use Rattle.formula_grammar.specs.Printed.{cell_or_error, prefix_of}
 use Rattle.formula_grammar.specs.Syntax.{Target, here, on_sheet, target_spelling, target_marks, target_word, target_sheet, target_meaning, reference_at, cells_between, quiet, sized}
 use Rattle.formula_grammar.specs.declared.faults.FaultKind.{FaultKind}
 use Rattle.formula_grammar.specs.Fault.{is_inside, corner_fault, own_fault, named_fault, total_nodes}
-use Rattle.formula_grammar.proofs.PrintedTokens.{tokens_in}
-use Rattle.formula_grammar.proofs.PrintedWords.{closes, opens}
-use Rattle.formula_grammar.proofs.PrintedSigns.{numbered, prefix_tokens, prefix_opens}
-use Rattle.formula_grammar.proofs.PrintedCells.{corner, Resolved, resolved, part_back, cell_tokens, cell_opens}
-use Rattle.formula_grammar.proofs.PrintedParts.{Part, all_join, total_join, opens_more}
+use Rattle.formula_tokens.proofs.Lexed.{lexemes_in}
+use Rattle.formula_tokens.proofs.LexedWords.{closes, opens}
+use Rattle.formula_tokens.proofs.LexedSigns.{prefix_lexeme, prefix_opens}
+use Rattle.formula_tokens.proofs.Held.{numbered}
+use Rattle.formula_grammar.proofs.PrintedCells.{corner, Resolved, resolved, part_back, cell_lexeme, cell_opens}
+use Rattle.formula_grammar.proofs.PrintedParts.{Part, tokens_around, all_join, total_join, opens_more}
 
 -- a word behind the prefix of a sheet, if one is named
 abbrev pub target_of : Option ℕ → Word → Target
@@ -61,11 +66,11 @@ target_total : (o : Option ℕ) (w : Word) → total_nodes (target_marks (target
 target_total None w = refl
 target_total (Some s) w = refl
 
-target_low : (o : Option ℕ) (w : Word) → AllByRecursion (λ m. m.level ≤ 32) (target_marks (target_of o w))
+target_low : (o : Option ℕ) (w : Word) → AllByRecursion (λ m. m.level ≤ MAX_LEVELS) (target_marks (target_of o w))
 target_low None w = (omega arith, tt)
 target_low (Some s) w = (omega arith, (omega arith, tt))
 
-target_small : (o : Option ℕ) (w : Word) → AllByRecursion (λ m. m.cells ≤ 65536) (target_marks (target_of o w))
+target_small : (o : Option ℕ) (w : Word) → AllByRecursion (λ m. m.cells ≤ MAX_RANGE_CELLS) (target_marks (target_of o w))
 target_small None w = (omega arith, tt)
 target_small (Some s) w = (omega arith, (omega arith, tt))
 
@@ -77,21 +82,33 @@ target_inside : (at : Addr) (r : Reference) (a : Addr) (o : Option ℕ) → Reso
 target_inside at r a None h = (corner_known at r a h, tt)
 target_inside at r a (Some s) h = (refl, (corner_known at r a h, tt))
 
+abbrev target_lexed : Option ℕ → Word → List Lexeme
+target_lexed None w = Other (Token.Reference w) ∷ []
+target_lexed (Some s) w = Other (Token.Prefix (Some s)) ∷ Other (Token.SheetReference w) ∷ []
+
+target_tokens : (ts : Texts) (o : Option ℕ) (w : Word) → map (token_of ts) (target_lexed o w) ≡ target_spelling (target_of o w)
+target_tokens ts None w = refl
+target_tokens ts (Some s) w = refl
+
+target_held : (ts : Texts) (o : Option ℕ) (w : Word) → AllByRecursion (HoldsLiteral ts) (target_lexed o w)
+target_held ts None w = (tt, tt)
+target_held ts (Some s) w = (tt, (tt, tt))
+
 module _ (names : List (List ℕ)) (ts : Texts) (good : AreSheetNames names) where
-  abbrev after : List ℕ → List Token
-  after rest = tokens_in names ts 0 false rest
+  abbrev after : List ℕ → List Lexeme
+  after rest = lexemes_in names 0 false rest
 
   good_name : (s : ℕ) → s < length names → is_good_name (slice_index_or names s []) ≡ true
   good_name s h = good.good s [] h
 
   target_reads : (at : Addr) (r : Reference) (a : Addr) (o : Option ℕ) (rest : List ℕ) → Resolved at r a → SheetBelow (length names) o → closes rest ≡ true
-      → after ((prefix_of names o ++ cell_or_error r (Some a)) ++ rest) ≡ target_spelling (target_of o (word_of r a)) ++ after rest
-  target_reads at r a None rest h below c = cell_tokens names ts false at r a rest h c
+      → after ((prefix_of names o ++ cell_or_error r (Some a)) ++ rest) ≡ target_lexed o (word_of r a) ++ after rest
+  target_reads at r a None rest h below c = cell_lexeme names false at r a rest h c
   target_reads at r a (Some s) rest h below c =
       let name : List ℕ = slice_index_or names s [] in
       ap after (append_assoc (prefix_text name) (cell_or_error r (Some a)) rest)
-      ∙ prefix_tokens names ts name (cell_or_error r (Some a) ++ rest) (Some s) (good_name s below) (numbered names good.distinct s below)
-      ∙ ap (λ us. Token.Prefix (Some s) ∷ us) (cell_tokens names ts true at r a rest h c)
+      ∙ prefix_lexeme names name (cell_or_error r (Some a) ++ rest) (Some s) (good_name s below) (numbered names good.distinct s below)
+      ∙ ap (λ us. Other (Token.Prefix (Some s)) ∷ us) (cell_lexeme names true at r a rest h c)
 
   target_opens : (at : Addr) (r : Reference) (a : Addr) (o : Option ℕ) (rest : List ℕ) → Resolved at r a → SheetBelow (length names) o → opens ((prefix_of names o ++ cell_or_error r (Some a)) ++ rest) ≡ true
   target_opens at r a None rest h below = cell_opens at r a rest h
@@ -105,7 +122,10 @@ module _ (names : List (List ℕ)) (ts : Texts) (good : AreSheetNames names) whe
   cell_part at r a h below = record {
     allowed = tt;
     means = ap Ref (ap₂ (reference_at at) (sheet_is r.sheet (word_of r a)) (word_is r.sheet (word_of r a)) ∙ word_means at r a r.sheet h refl);
+    lexed = target_lexed r.sheet (word_of r a);
     reads = λ rest c. target_reads at r a r.sheet rest h below c;
+    tokens = target_tokens ts r.sheet (word_of r a);
+    held = target_held ts r.sheet (word_of r a);
     begins = ap opens (sym (append-nil (prefix_of names r.sheet ++ cell_or_error r (Some a)))) ∙ target_opens at r a r.sheet [] h below;
     known = target_known r.sheet (corner r a);
     inside = target_inside at r a r.sheet h;
@@ -115,7 +135,7 @@ module _ (names : List (List ℕ)) (ts : Texts) (good : AreSheetNames names) whe
   }
 
   -- a range
-  area_part : (at : Addr) (r s : Reference) (a b : Addr) → Resolved at r a → Resolved at s b → r.sheet ≡ s.sheet → cells_between (word_of r a) (word_of s b) ≤ 65536 → SheetBelow (length names) r.sheet
+  area_part : (at : Addr) (r s : Reference) (a b : Addr) → Resolved at r a → Resolved at s b → r.sheet ≡ s.sheet → cells_between (word_of r a) (word_of s b) ≤ MAX_RANGE_CELLS → SheetBelow (length names) r.sheet
       → Part names ts Expr (Range r s) 1 0 ((prefix_of names r.sheet ++ cell_or_error r (Some a)) ++ (codes ":" ++ cell_or_error s (Some b))) (Unit {0}) (target_spelling (target_of r.sheet (word_of r a)) ++ Token.Colon ∷ Token.Reference (word_of s b) ∷ [])
       (λ d. target_marks (target_of r.sheet (word_of r a)) ++ quiet ∷ sized (cells_between (target_word (target_of r.sheet (word_of r a))) (word_of s b)) ∷ []) (Range (target_meaning at (target_of r.sheet (word_of r a))) (reference_at at (target_sheet (target_of r.sheet (word_of r a))) (word_of s b)))
   area_part at r s a b h k e small below =
@@ -129,10 +149,13 @@ module _ (names : List (List ℕ)) (ts : Texts) (good : AreSheetNames names) whe
       record {
         allowed = tt;
         means = ap₂ Range first second;
+        lexed = p.lexed ++ Other Token.Colon ∷ Other (Token.Reference (word_of s b)) ∷ [];
         reads = λ rest c.
             ap after (append_assoc front (codes ":" ++ back) rest) ∙ p.reads (codes ":" ++ (back ++ rest)) refl
-            ∙ ap (λ us. target_spelling x ++ Token.Colon ∷ us) (cell_tokens names ts false at s b rest k c)
-            ∙ sym (append_assoc (target_spelling x) (Token.Colon ∷ Token.Reference (word_of s b) ∷ []) (after rest));
+            ∙ ap (λ us. p.lexed ++ Other Token.Colon ∷ us) (cell_lexeme names false at s b rest k c)
+            ∙ sym (append_assoc p.lexed (Other Token.Colon ∷ Other (Token.Reference (word_of s b)) ∷ []) (after rest));
+        tokens = tokens_around ts p.lexed (Other (Token.Reference (word_of s b)) ∷ []) Token.Colon (target_spelling x) (Token.Reference (word_of s b) ∷ []) p.tokens refl;
+        held = all_join _ p.lexed (Other Token.Colon ∷ Other (Token.Reference (word_of s b)) ∷ []) p.held (tt, (tt, tt));
         begins = opens_more front (codes ":" ++ back) p.begins;
         known = all_join _ (target_spelling x) (Token.Colon ∷ Token.Reference (word_of s b) ∷ []) p.known (refl, (refl, tt));
         inside = all_join _ (target_spelling x) (Token.Colon ∷ Token.Reference (word_of s b) ∷ []) p.inside (refl, (corner_known at s b k, tt));
@@ -158,7 +181,7 @@ module _ (names : List (List ℕ)) (ts : Texts) (good : AreSheetNames names) whe
       (w : Word) × (v : Word) × Part names ts Expr (Range r s) 1 0 ((prefix_of names r.sheet ++ cell_or_error r o) ++ (codes ":" ++ cell_or_error s q)) (Unit {0}) (target_spelling (target_of r.sheet w) ++ Token.Colon ∷ Token.Reference v ∷ [])
       (λ d. target_marks (target_of r.sheet w) ++ quiet ∷ sized (cells_between (target_word (target_of r.sheet w)) v) ∷ []) (Range (target_meaning at (target_of r.sheet w)) (reference_at at (target_sheet (target_of r.sheet w)) v))
 
-  few_cells : (a b : Addr) (r s : Reference) → height (between_cells a b) * width (between_cells a b) ≤ 65536 → cells_between (word_of r a) (word_of s b) ≤ 65536
+  few_cells : (a b : Addr) (r s : Reference) → height (between_cells a b) * width (between_cells a b) ≤ MAX_RANGE_CELLS → cells_between (word_of r a) (word_of s b) ≤ MAX_RANGE_CELLS
   unfolding height width
   few_cells a b r s h = h
 
@@ -166,7 +189,7 @@ module _ (names : List (List ℕ)) (ts : Texts) (good : AreSheetNames names) whe
   pub range_part : (at : Addr) (r s : Reference) → IsRange at r s → SheetBelow (length names) r.sheet → AreaPart at r s (resolve at r) (resolve at s)
   range_part at r s range below = by (resolve at r) (resolve at s) refl refl range.small
     where
-      by : (o q : Option Addr) → resolve at r ≡ o → resolve at s ≡ q → IsSomeAnd (area_between o q) (λ a. height a * width a ≤ 65536) → AreaPart at r s o q
+      by : (o q : Option Addr) → resolve at r ≡ o → resolve at s ≡ q → IsSomeAnd (area_between o q) (λ a. height a * width a ≤ MAX_RANGE_CELLS) → AreaPart at r s o q
       by None q e f h = absurd h
       by (Some a) None e f h = absurd h
       by (Some a) (Some b) e f h = (word_of r a, word_of s b, area_part at r s a b (resolved at r a e) (resolved at s b f) range.one_sheet (few_cells a b r s h) below)

@@ -1,6 +1,6 @@
 -- A tree as concrete syntax at each level, in parentheses where its root's level is lower.
-use Rattle.std.proofs.Common.{◌≡◌, ℕ, suc, ◌^◌, ◌<◌, Bool, true, false, cond, List, [], ◌∷◌, ◌++◌, length, refl, ap, ◌∙◌, arith}
-use Rattle.std.specs.Prelude.{ℤ, pos, negsuc, ◌&&◌, nat_lt, int_le, codes}
+use Rattle.std.proofs.Common.{◌≡◌, ℕ, suc, ◌^◌, ◌<◌, Bool, true, false, cond, List, [], ◌∷◌, ◌++◌, length, refl, ap, sym, subst, ◌∙◌, arith, Option}
+use Rattle.std.specs.Prelude.{IsSome, unwrap_or, ℤ, pos, negsuc, ◌&&◌, nat_lt, int_le, codes}
 use Rattle.std.specs.Fmt.{decimal}
 use Rattle.std.specs.Char.{is_ascii_digit}
 use Rattle.std.specs.Str.{all_ascii_digits}
@@ -17,14 +17,17 @@ use Rattle.cell_values.specs.Numbers.{fits}
 use Rattle.cell_values.specs.ShownText.{int_text, bool_text}
 use Rattle.cell_values.specs.Texts.{Texts, text_at}
 use Rattle.formula_trees.specs.Expr.{Expr, Number, Text, Truth, RefError}
+use Rattle.formula_trees.specs.declared.levels.TheConstants.{COMPARISON_LEVEL, SUM_LEVEL, TERM_LEVEL, SIGN_LEVEL, OPERAND_LEVEL}
 use Rattle.formula_trees.specs.Sound.{IsLiteral}
 use Rattle.formula_tokens.specs.declared.token.Literal.{Literal}
 use Rattle.formula_tokens.specs.declared.token.Token.{Token}
-use Rattle.formula_grammar.specs.Printed.{quoted}
+use Rattle.formula_tokens.specs.Lexemes.{Quoted, Other}
+use Rattle.formula_tokens.specs.Spelling.{quoted}
 use Rattle.formula_grammar.specs.Syntax.{Expression, only_sum, Sums, only_term, Term, only_signed, Signed, plain, Primary, group, node, Fits, SumsFit, TermFits, SignedFits, PrimaryFits, spelling, sums_spelling, term_spelling, signed_spelling, primary_spelling, marks, sums_marks, term_marks, signed_marks, primary_marks, meaning, sums_meaning, term_meaning, signed_meaning, primary_meaning}
-use Rattle.formula_grammar.proofs.PrintedTokens.{tokens_in}
-use Rattle.formula_grammar.proofs.PrintedWords.{opens, begins_not, number_tokens}
-use Rattle.formula_grammar.proofs.PrintedSigns.{text_tokens, truth_tokens}
+use Rattle.formula_tokens.proofs.Lexed.{lexemes_in}
+use Rattle.formula_tokens.proofs.LexedWords.{opens, begins_not, closes_digits, fitting, number_lexeme}
+use Rattle.formula_tokens.proofs.Held.{numbered}
+use Rattle.formula_tokens.proofs.LexedSigns.{quoted_lexeme, truth_lexeme}
 use Rattle.formula_grammar.proofs.PrintedParts.{Part, one, grouped}
 
 -- in parentheses where a level is lower than asked for
@@ -41,13 +44,13 @@ pub record Views (names : List (List ℕ)) (ts : Texts) (at : Addr) (e : Expr) (
   pub term : Term
   pub signed : Signed
   pub whole : Part names ts Expr e n i text (Fits true expression) (spelling expression) (marks expression) (meaning at expression)
-  pub first : Part names ts Expr e n (levels_in level 1 i) (text_in level 1 text) (Fits true expression) (spelling expression) (marks expression) (meaning at expression)
-  pub second : Part names ts Expr e n (levels_in level 2 i) (text_in level 2 text) (SumsFit true sums) (sums_spelling sums) (sums_marks sums) (sums_meaning at sums)
-  pub third : Part names ts Expr e n (levels_in level 3 i) (text_in level 3 text) (TermFits true term) (term_spelling term) (term_marks term) (term_meaning at term)
-  pub fourth : Part names ts Expr e n (levels_in level 4 i) (text_in level 4 text) (SignedFits true signed) (signed_spelling signed) (signed_marks signed) (signed_meaning at signed)
+  pub first : Part names ts Expr e n (levels_in level COMPARISON_LEVEL i) (text_in level COMPARISON_LEVEL text) (Fits true expression) (spelling expression) (marks expression) (meaning at expression)
+  pub second : Part names ts Expr e n (levels_in level SUM_LEVEL i) (text_in level SUM_LEVEL text) (SumsFit true sums) (sums_spelling sums) (sums_marks sums) (sums_meaning at sums)
+  pub third : Part names ts Expr e n (levels_in level TERM_LEVEL i) (text_in level TERM_LEVEL text) (TermFits true term) (term_spelling term) (term_marks term) (term_meaning at term)
+  pub fourth : Part names ts Expr e n (levels_in level SIGN_LEVEL i) (text_in level SIGN_LEVEL text) (SignedFits true signed) (signed_spelling signed) (signed_marks signed) (signed_meaning at signed)
 
 module _ (names : List (List ℕ)) (ts : Texts) (at : Addr) where
-  pub from_expression : (e : Expr) (n i : ℕ) (text : List ℕ) (x : Expression) → Part names ts Expr e n i text (Fits true x) (spelling x) (marks x) (meaning at x) → Views names ts at e n i 1 text
+  pub from_expression : (e : Expr) (n i : ℕ) (text : List ℕ) (x : Expression) → Part names ts Expr e n i text (Fits true x) (spelling x) (marks x) (meaning at x) → Views names ts at e n i COMPARISON_LEVEL text
   from_expression e n i text x p =
       let g = grouped names ts e n i text (Fits true x) (spelling x) (marks x) (meaning at x) p in
       record {
@@ -62,7 +65,7 @@ module _ (names : List (List ℕ)) (ts : Texts) (at : Addr) where
         fourth = g;
       }
 
-  pub from_sums : (e : Expr) (n i : ℕ) (text : List ℕ) (x : Sums) → Part names ts Expr e n i text (SumsFit true x) (sums_spelling x) (sums_marks x) (sums_meaning at x) → Views names ts at e n i 2 text
+  pub from_sums : (e : Expr) (n i : ℕ) (text : List ℕ) (x : Sums) → Part names ts Expr e n i text (SumsFit true x) (sums_spelling x) (sums_marks x) (sums_meaning at x) → Views names ts at e n i SUM_LEVEL text
   from_sums e n i text x p =
       let g = grouped names ts e n i text (SumsFit true x) (sums_spelling x) (sums_marks x) (sums_meaning at x) p in
       record {
@@ -77,7 +80,7 @@ module _ (names : List (List ℕ)) (ts : Texts) (at : Addr) where
         fourth = g;
       }
 
-  pub from_term : (e : Expr) (n i : ℕ) (text : List ℕ) (x : Term) → Part names ts Expr e n i text (TermFits true x) (term_spelling x) (term_marks x) (term_meaning at x) → Views names ts at e n i 3 text
+  pub from_term : (e : Expr) (n i : ℕ) (text : List ℕ) (x : Term) → Part names ts Expr e n i text (TermFits true x) (term_spelling x) (term_marks x) (term_meaning at x) → Views names ts at e n i TERM_LEVEL text
   from_term e n i text x p =
       let g = grouped names ts e n i text (TermFits true x) (term_spelling x) (term_marks x) (term_meaning at x) p in
       record {
@@ -92,7 +95,7 @@ module _ (names : List (List ℕ)) (ts : Texts) (at : Addr) where
         fourth = g;
       }
 
-  pub from_signed : (e : Expr) (n i : ℕ) (text : List ℕ) (x : Signed) → Part names ts Expr e n i text (SignedFits true x) (signed_spelling x) (signed_marks x) (signed_meaning at x) → Views names ts at e n i 4 text
+  pub from_signed : (e : Expr) (n i : ℕ) (text : List ℕ) (x : Signed) → Part names ts Expr e n i text (SignedFits true x) (signed_spelling x) (signed_marks x) (signed_meaning at x) → Views names ts at e n i SIGN_LEVEL text
   from_signed e n i text x p = record {
     expression = only_sum (only_term (only_signed x));
     sums = only_term (only_signed x);
@@ -105,7 +108,7 @@ module _ (names : List (List ℕ)) (ts : Texts) (at : Addr) where
     fourth = p;
   }
 
-  pub from_primary : (e : Expr) (n i : ℕ) (text : List ℕ) (x : Primary) → Part names ts Expr e n i text (PrimaryFits true x) (primary_spelling x) (primary_marks x) (primary_meaning at x) → Views names ts at e n i 5 text
+  pub from_primary : (e : Expr) (n i : ℕ) (text : List ℕ) (x : Primary) → Part names ts Expr e n i text (PrimaryFits true x) (primary_spelling x) (primary_marks x) (primary_meaning at x) → Views names ts at e n i OPERAND_LEVEL text
   from_primary e n i text x p = record {
     expression = only_sum (only_term (only_signed (plain x)));
     sums = only_term (only_signed (plain x));
@@ -144,20 +147,23 @@ number_part names ts F f (pos n) h =
     let some = numeral.0.0 in
     let value = numeral.1 in
     let same : fits (pos (digits_value 10 (decimal n))) ≡ true = ap (λ m. fits (pos m)) value ∙ fit in
-    one names ts (Number (pos n)) (decimal n) F (Token.Literal (Literal.Number (pos n))) (Number (pos n)) f refl
-    (λ rest c. number_tokens names ts (decimal n) rest digits some same c ∙ ap (λ m. Token.Literal (Literal.Number (pos m)) ∷ tokens_in names ts 0 false rest) value)
+    one names ts (Number (pos n)) (decimal n) F (Other (Token.Literal (Literal.Number (pos n)))) (Token.Literal (Literal.Number (pos n))) (Number (pos n)) f refl refl tt
+    (λ rest c. number_lexeme names false (decimal n) rest digits some (closes_digits rest c) ∙ ap (λ t. Other t ∷ lexemes_in names 0 false rest) (fitting (decimal n) same ∙ ap (λ m. Token.Literal (Literal.Number (pos m))) value))
     (digits_open (decimal n) digits some) (cond-true (int_le (pos 0) (pos n) && fits (pos n)) _ _ h) refl
 
 pub text_part : (names : List (List ℕ)) (ts : Texts) (F : Type 0) → F → AreDistinct ts → (t : TextId) → t.0 < length ts → LiteralPart names ts F (Text t) (quoted (text_at ts t)) (Literal.Text t)
 text_part names ts F f d t below =
-    one names ts (Text t) (quoted (text_at ts t)) F (Token.Literal (Literal.Text t)) (Text t) f refl (λ rest c. text_tokens names ts d t rest below (begins_not 34 rest c refl)) refl refl refl
+    let number = numbered ts d t.0 below in
+    one names ts (Text t) (quoted (text_at ts t)) F (Quoted (text_at ts t)) (Token.Literal (Literal.Text t)) (Text t) f refl
+    (ap (λ (o : Option ℕ). Token.Literal (Literal.Text (record { 0 = unwrap_or o 0 }))) number) (subst IsSome (sym number) refl)
+    (λ rest c. quoted_lexeme names false (text_at ts t) rest (begins_not 34 rest c refl)) refl refl refl
 
 truth_opens : (b : Bool) → opens (bool_text b) ≡ true
 truth_opens true = refl
 truth_opens false = refl
 
 pub truth_part : (names : List (List ℕ)) (ts : Texts) (F : Type 0) → F → (b : Bool) → LiteralPart names ts F (Truth b) (bool_text b) (Literal.Truth b)
-truth_part names ts F f b = one names ts (Truth b) (bool_text b) F (Token.Literal (Literal.Truth b)) (Truth b) f refl (λ rest c. truth_tokens names ts b rest c) (truth_opens b) refl refl
+truth_part names ts F f b = one names ts (Truth b) (bool_text b) F (Other (Token.Literal (Literal.Truth b))) (Token.Literal (Literal.Truth b)) (Truth b) f refl refl tt (λ rest c. truth_lexeme names b rest c) (truth_opens b) refl refl
 
 pub ref_error_part : (names : List (List ℕ)) (ts : Texts) (F : Type 0) → F → LiteralPart names ts F RefError (codes "#REF!") Literal.RefError
-ref_error_part names ts F f = one names ts RefError (codes "#REF!") F (Token.Literal Literal.RefError) RefError f refl (λ rest c. refl) refl refl refl
+ref_error_part names ts F f = one names ts RefError (codes "#REF!") F (Other (Token.Literal Literal.RefError)) (Token.Literal Literal.RefError) RefError f refl refl tt (λ rest c. refl) refl refl refl

@@ -1,5 +1,5 @@
 -- What is printed of a sound formula is read as the same tree.
-use Rattle.std.proofs.Common.{◌≡◌, ℕ, suc, ◌<◌, true, false, not, List, [], ◌∷◌, length, refl, ap, sym, subst, ◌∙◌, arith, Some, None}
+use Rattle.std.proofs.Common.{◌≡◌, ℕ, suc, ◌<◌, true, false, not, List, [], ◌∷◌, length, map, refl, ap, sym, subst, ◌∙◌, arith, Some, None}
 use Rattle.std.specs.Prelude.{ℤ, pos, IsTrue}
 use Rattle.std.specs.List.{AllByRecursion}
 use Rattle.std.proofs.lemmas.List.{append-nil}
@@ -14,16 +14,18 @@ use Rattle.formula_trees.specs.declared.functions.Kind.{Kind}
 use Rattle.formula_trees.specs.declared.functions.Kind.TheVariants.{Plain, Place, Many, Exact}
 use Rattle.formula_trees.specs.Functions.{kind_of, enough, takes_more}
 use Rattle.formula_trees.specs.SheetNumbers.{SheetsBelow, AllSheetsBelow}
+use Rattle.formula_trees.specs.declared.levels.TheConstants.{COMPARISON_LEVEL, SUM_LEVEL, TERM_LEVEL}
 use Rattle.formula_trees.specs.Sound.{IsLiteral, IsExpression, HasArguments, OfKind, nodes, nodes_of, levels, levels_of, level_of, op_level}
 use Rattle.formula_trees.specs.TextNumbers.{TextsBelow, AllTextsBelow}
 use Rattle.formula_tokens.specs.declared.token.Literal.{Literal}
 use Rattle.formula_tokens.specs.declared.token.Token.{Token}
-use Rattle.formula_tokens.specs.Tokens.{spots_of}
-use Rattle.formula_grammar.specs.Printed.{text_of, arguments_text}
+use Rattle.formula_tokens.specs.Tokens.{token_of, spots_of, HoldsLiteral, HoldsLiterals}
+use Rattle.formula_grammar.specs.Printed.{printed, text_of, arguments_text}
 use Rattle.formula_grammar.specs.Syntax.{compare, add, multiply, signed, literal, reference, call_none, call, Arguments, last, more, Argument, value, cell, area, lone, IsOfKind, is_exact, ArgumentsFit, ArgumentFits, spelling, arguments_spelling, argument_spelling, arguments_marks, argument_marks, arguments_meaning, argument_meaning}
 use Rattle.formula_grammar.specs.Fault.{own_fault, named_fault, tokens_of}
-use Rattle.formula_grammar.specs.RoundTrip.{PrintedReadsBack}
-use Rattle.formula_grammar.proofs.PrintedTokens.{tokens_in, whole_tokens}
+use Rattle.formula_grammar.specs.RoundTrip.{PrintedReadsBack, PrintedInternsNothing}
+use Rattle.formula_tokens.proofs.Lexed.{lexemes_in, whole_tokens, whole_held}
+use Rattle.formula_tokens.proofs.Held.{held_stay}
 use Rattle.formula_grammar.proofs.PrintedParts.{Part, of_kind, under_sign, between, called_none, called, ended, followed}
 use Rattle.formula_grammar.proofs.PrintedReferences.{target_of, reference_part, range_part}
 use Rattle.formula_grammar.proofs.PrintedViews.{Views, from_expression, from_sums, from_term, from_signed, from_primary, number_part, text_part, truth_part, ref_error_part}
@@ -41,16 +43,16 @@ module _ (names : List (List ℕ)) (ts : Texts) (at : Addr) (good : AreSheetName
     part : Part names ts Exprs args (nodes_of args) (levels_of args) (arguments_text names ts at args) (ArgumentsFit true (Some f) n nodes) (arguments_spelling nodes) (arguments_marks nodes) (arguments_meaning at nodes)
 
   right_binary : (o : Op) (a b : Expr) → Right a → Right b → Right (Binary o a b)
-  right_binary Op.Add a b v w = from_sums names ts at _ _ _ _ (add v.sums Op.Add w.term) (between names ts Op.Add (op_level Op.Add ≡ 2) refl a _ _ _ _ _ _ _ b _ _ _ _ _ _ _ v.second w.third)
-  right_binary Op.Sub a b v w = from_sums names ts at _ _ _ _ (add v.sums Op.Sub w.term) (between names ts Op.Sub (op_level Op.Sub ≡ 2) refl a _ _ _ _ _ _ _ b _ _ _ _ _ _ _ v.second w.third)
-  right_binary Op.Mul a b v w = from_term names ts at _ _ _ _ (multiply v.term Op.Mul w.signed) (between names ts Op.Mul (op_level Op.Mul ≡ 3) refl a _ _ _ _ _ _ _ b _ _ _ _ _ _ _ v.third w.fourth)
-  right_binary Op.Div a b v w = from_term names ts at _ _ _ _ (multiply v.term Op.Div w.signed) (between names ts Op.Div (op_level Op.Div ≡ 3) refl a _ _ _ _ _ _ _ b _ _ _ _ _ _ _ v.third w.fourth)
-  right_binary Op.Eq a b v w = from_expression names ts at _ _ _ _ (compare v.expression Op.Eq w.sums) (between names ts Op.Eq (op_level Op.Eq ≡ 1) refl a _ _ _ _ _ _ _ b _ _ _ _ _ _ _ v.first w.second)
-  right_binary Op.Ne a b v w = from_expression names ts at _ _ _ _ (compare v.expression Op.Ne w.sums) (between names ts Op.Ne (op_level Op.Ne ≡ 1) refl a _ _ _ _ _ _ _ b _ _ _ _ _ _ _ v.first w.second)
-  right_binary Op.Lt a b v w = from_expression names ts at _ _ _ _ (compare v.expression Op.Lt w.sums) (between names ts Op.Lt (op_level Op.Lt ≡ 1) refl a _ _ _ _ _ _ _ b _ _ _ _ _ _ _ v.first w.second)
-  right_binary Op.Le a b v w = from_expression names ts at _ _ _ _ (compare v.expression Op.Le w.sums) (between names ts Op.Le (op_level Op.Le ≡ 1) refl a _ _ _ _ _ _ _ b _ _ _ _ _ _ _ v.first w.second)
-  right_binary Op.Gt a b v w = from_expression names ts at _ _ _ _ (compare v.expression Op.Gt w.sums) (between names ts Op.Gt (op_level Op.Gt ≡ 1) refl a _ _ _ _ _ _ _ b _ _ _ _ _ _ _ v.first w.second)
-  right_binary Op.Ge a b v w = from_expression names ts at _ _ _ _ (compare v.expression Op.Ge w.sums) (between names ts Op.Ge (op_level Op.Ge ≡ 1) refl a _ _ _ _ _ _ _ b _ _ _ _ _ _ _ v.first w.second)
+  right_binary Op.Add a b v w = from_sums names ts at _ _ _ _ (add v.sums Op.Add w.term) (between names ts Op.Add (op_level Op.Add ≡ SUM_LEVEL) refl a _ _ _ _ _ _ _ b _ _ _ _ _ _ _ v.second w.third)
+  right_binary Op.Sub a b v w = from_sums names ts at _ _ _ _ (add v.sums Op.Sub w.term) (between names ts Op.Sub (op_level Op.Sub ≡ SUM_LEVEL) refl a _ _ _ _ _ _ _ b _ _ _ _ _ _ _ v.second w.third)
+  right_binary Op.Mul a b v w = from_term names ts at _ _ _ _ (multiply v.term Op.Mul w.signed) (between names ts Op.Mul (op_level Op.Mul ≡ TERM_LEVEL) refl a _ _ _ _ _ _ _ b _ _ _ _ _ _ _ v.third w.fourth)
+  right_binary Op.Div a b v w = from_term names ts at _ _ _ _ (multiply v.term Op.Div w.signed) (between names ts Op.Div (op_level Op.Div ≡ TERM_LEVEL) refl a _ _ _ _ _ _ _ b _ _ _ _ _ _ _ v.third w.fourth)
+  right_binary Op.Eq a b v w = from_expression names ts at _ _ _ _ (compare v.expression Op.Eq w.sums) (between names ts Op.Eq (op_level Op.Eq ≡ COMPARISON_LEVEL) refl a _ _ _ _ _ _ _ b _ _ _ _ _ _ _ v.first w.second)
+  right_binary Op.Ne a b v w = from_expression names ts at _ _ _ _ (compare v.expression Op.Ne w.sums) (between names ts Op.Ne (op_level Op.Ne ≡ COMPARISON_LEVEL) refl a _ _ _ _ _ _ _ b _ _ _ _ _ _ _ v.first w.second)
+  right_binary Op.Lt a b v w = from_expression names ts at _ _ _ _ (compare v.expression Op.Lt w.sums) (between names ts Op.Lt (op_level Op.Lt ≡ COMPARISON_LEVEL) refl a _ _ _ _ _ _ _ b _ _ _ _ _ _ _ v.first w.second)
+  right_binary Op.Le a b v w = from_expression names ts at _ _ _ _ (compare v.expression Op.Le w.sums) (between names ts Op.Le (op_level Op.Le ≡ COMPARISON_LEVEL) refl a _ _ _ _ _ _ _ b _ _ _ _ _ _ _ v.first w.second)
+  right_binary Op.Gt a b v w = from_expression names ts at _ _ _ _ (compare v.expression Op.Gt w.sums) (between names ts Op.Gt (op_level Op.Gt ≡ COMPARISON_LEVEL) refl a _ _ _ _ _ _ _ b _ _ _ _ _ _ _ v.first w.second)
+  right_binary Op.Ge a b v w = from_expression names ts at _ _ _ _ (compare v.expression Op.Ge w.sums) (between names ts Op.Ge (op_level Op.Ge ≡ COMPARISON_LEVEL) refl a _ _ _ _ _ _ _ b _ _ _ _ _ _ _ v.first w.second)
 
   right_value : (k : Kind) (e : Expr) (v : Right e) → IsOfKind k (value v.expression) → RightArgument k e
   right_value k e v h = record { node = value v.expression; part = of_kind names ts (IsOfKind k (value v.expression)) h _ _ _ _ _ _ _ _ v.whole }
@@ -118,10 +120,14 @@ pub printed_reads_back : PrintedReadsBack
 printed_reads_back names ts at e good distinct on sound texts sheets short =
     let v = right names ts at good distinct e sound.shape texts sheets in
     let text : List ℕ = text_of names ts at e in
+    let lexed : lexemes_in names 0 false text ≡ v.whole.lexed = ap (lexemes_in names 0 false) (sym (append-nil text)) ∙ v.whole.reads [] refl ∙ append-nil v.whole.lexed in
     let spelled : spelling v.expression ≡ tokens_of (spots_of names ts (61 ∷ text)) =
-    sym (whole_tokens names ts (61 ∷ text) ∙ ap (tokens_in names ts 0 false) (sym (append-nil text)) ∙ v.whole.reads [] refl ∙ append-nil (spelling v.expression)) in
+    sym (whole_tokens names ts (61 ∷ text) ∙ ap (map (token_of ts)) lexed ∙ v.whole.tokens) in
+    let literals : HoldsLiterals names ts (61 ∷ text) = whole_held names ts (61 ∷ text) (subst (AllByRecursion (HoldsLiteral ts)) (sym lexed) v.whole.held) in
     record {
+      formula = refl;
       short = short;
+      literals = literals;
       reads = record {
         expression = v.expression;
         fits = v.whole.allowed;
@@ -134,3 +140,7 @@ printed_reads_back names ts at e good distinct on sound texts sheets short =
         means = v.whole.means;
       };
     }
+
+-- and interns nothing
+pub printed_interns_nothing : PrintedInternsNothing
+printed_interns_nothing names ts at e good distinct on sound texts sheets short = held_stay names ts (printed names ts at e) (printed_reads_back names ts at e good distinct on sound texts sheets short).literals

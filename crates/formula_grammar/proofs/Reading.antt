@@ -1,6 +1,9 @@
 -- How the readers of parts go together.
 use Rattle.std.proofs.Common.{Some, None, cond, ◌≡◌, ◌≢◌, ℕ, suc, ◌+◌, ◌-◌, ◌<◌, ◌≤◌, List, [], ◌∷◌, ◌++◌, length, drop, Bool, true, false, Option, Result, Ok, Err, IfOk, IfErr, OnOk, ◌⊎◌, nat_le, le-leb, zero, ⊎_elim, refl, sym, ap, ap₂, ◌∙◌, subst, arith, append_assoc}
 use Rattle.cell_values.specs.declared.address.Addr.{Addr}
+use Rattle.cell_values.specs.declared.TheConstants.{MAX_RANGE_CELLS}
+use Rattle.formula_trees.specs.declared.TheConstants.{MAX_NODES, MAX_LEVELS}
+use Rattle.formula_trees.specs.declared.levels.TheConstants.{COMPARISON_LEVEL, SUM_LEVEL, TERM_LEVEL}
 use Rattle.formula_trees.specs.declared.tree.Fun.{Fun}
 use Rattle.formula_trees.specs.declared.tree.Op.{Op}
 use Rattle.formula_trees.specs.declared.tree.Sign.{Sign}
@@ -70,7 +73,7 @@ run_quiet t old new s s' a m o i q =
     let cells = ap (λ x. x.cells) q in
     took_run t 0 old new s s' a (record { moved = m; known = o; inside = i; low = omega (arith, level); few = omega (arith, nodes); small = omega (arith, cells) }) nodes
 
-run_node : (t : Token) (old new : Rest) (s s' : State) → Took t 1 old new → old.nodes < 512 → move true s t ≡ Ok s' → own_fault t ≡ None → named_fault t ≡ None → mark_at s t ≡ node → run_rest old s ≡ run_rest new s'
+run_node : (t : Token) (old new : Rest) (s s' : State) → Took t 1 old new → old.nodes < MAX_NODES → move true s t ≡ Ok s' → own_fault t ≡ None → named_fault t ≡ None → mark_at s t ≡ node → run_rest old s ≡ run_rest new s'
 run_node t old new s s' a r m o i q =
     let level = ap (λ x. x.level) q in
     let nodes = ap (λ x. x.nodes) q in
@@ -81,9 +84,9 @@ pub fails_by : (o q : Outcome) (er : FormulaFault) → o ≡ q → Fails er q �
 fails_by o q er h = subst (Fails er) (sym h)
 
 -- where a token that makes a node fails
-pub fails_at : (t : Token) (old : Rest) (e : FormulaFault) (s s' : State) → next_token old ≡ t → FailsNode old e → move true s t ≡ Ok s' → (mark_at s t).level ≤ 32 → (mark_at s t).nodes ≡ 1 → (mark_at s t).cells ≤ 65536 → Fails e (run_rest old s)
+pub fails_at : (t : Token) (old : Rest) (e : FormulaFault) (s s' : State) → next_token old ≡ t → FailsNode old e → move true s t ≡ Ok s' → (mark_at s t).level ≤ MAX_LEVELS → (mark_at s t).nodes ≡ 1 → (mark_at s t).cells ≤ MAX_RANGE_CELLS → Fails e (run_rest old s)
 fails_at t old e s s' h f m l n c =
-    f s s' (subst (λ u. move true s u ≡ Ok s') (sym h) m) (subst (λ u. (mark_at s u).level ≤ 32) (sym h) l) (subst (λ u. (mark_at s u).nodes ≡ 1) (sym h) n) (subst (λ u. (mark_at s u).cells ≤ 65536) (sym h) c)
+    f s s' (subst (λ u. move true s u ≡ Ok s') (sym h) m) (subst (λ u. (mark_at s u).level ≤ MAX_LEVELS) (sym h) l) (subst (λ u. (mark_at s u).nodes ≡ 1) (sym h) n) (subst (λ u. (mark_at s u).cells ≤ MAX_RANGE_CELLS) (sym h) c)
 
 -- a run whose next token is refused
 stopped : (ts : List Spot) (end n : ℕ) (k : FaultKind) (s : State) → step n s (next_of ts) ≡ Err k → run ts end n s ≡ fault (place_of ts end) k
@@ -95,7 +98,7 @@ fails_stopped old e k s b h = subst (λ x. Fails x (run_rest old s)) (sym b) (st
 
 misfits : (n : ℕ) (s : State) (t : Token) → move true s t ≡ Err FaultKind.Misplaced → step n s t ≡ Err (misfit t)
 misfits n s t m =
-    ap (checked (is_bad t) (own_fault t) (named_fault t) (nat_le (mark_at s t).level 32) (nat_le (mark_at s t).nodes (512 - n)) (nat_le (mark_at s t).cells 65536)) m ∙ by_bad (is_bad t)
+    ap (checked (is_bad t) (own_fault t) (named_fault t) (nat_le (mark_at s t).level MAX_LEVELS) (nat_le (mark_at s t).nodes (MAX_NODES - n)) (nat_le (mark_at s t).cells MAX_RANGE_CELLS)) m ∙ by_bad (is_bad t)
   where
     by_bad : (b : Bool) → ◌≡◌ {A = Move} (refused b FaultKind.Misplaced) (Err (cond b FaultKind.BadCharacter FaultKind.Misplaced))
     by_bad true = refl
@@ -109,7 +112,7 @@ pub fails_own : (old : Rest) (e : FormulaFault) (k : FaultKind) → e ≡ Bad (n
 fails_own old e k b o s s' m l n c =
     let t = next_token old in
     fails_stopped old e k s b
-    (ap₂ (λ x v. checked (is_bad t) x (named_fault t) (nat_le (mark_at s t).level 32) (nat_le (mark_at s t).nodes (512 - old.nodes)) (nat_le (mark_at s t).cells 65536) v) o m)
+    (ap₂ (λ x v. checked (is_bad t) x (named_fault t) (nat_le (mark_at s t).level MAX_LEVELS) (nat_le (mark_at s t).nodes (MAX_NODES - old.nodes)) (nat_le (mark_at s t).cells MAX_RANGE_CELLS) v) o m)
 
 within_named : (bad low few small : Bool) (o l : Option FaultKind) (k : FaultKind) (s : State) → o ≡ None → l ≡ Some k → low ≡ true → few ≡ true → small ≡ true → checked bad o l low few small (Ok s) ≡ Err k
 within_named bad true true true None (Some j) k s u n h f c = ap Err (some_same j k n)
@@ -122,12 +125,12 @@ within_named bad false few small None (Some j) k s u n h f c = cc
 within_named bad true false small None (Some j) k s u n h f c = cc
 within_named bad true true false None (Some j) k s u n h f c = cc
 
-pub fails_named : (old : Rest) (e : FormulaFault) (k : FaultKind) → e ≡ Bad (next_place old) k → own_fault (next_token old) ≡ None → old.nodes < 512 → named_fault (next_token old) ≡ Some k → FailsNode old e
+pub fails_named : (old : Rest) (e : FormulaFault) (k : FaultKind) → e ≡ Bad (next_place old) k → own_fault (next_token old) ≡ None → old.nodes < MAX_NODES → named_fault (next_token old) ≡ Some k → FailsNode old e
 fails_named old e k b o r i s s' m l n c =
     let t = next_token old in
     fails_stopped old e k s b
-    (ap (checked (is_bad t) (own_fault t) (named_fault t) (nat_le (mark_at s t).level 32) (nat_le (mark_at s t).nodes (512 - old.nodes)) (nat_le (mark_at s t).cells 65536)) m
-    ∙ within_named (is_bad t) (nat_le (mark_at s t).level 32) (nat_le (mark_at s t).nodes (512 - old.nodes)) (nat_le (mark_at s t).cells 65536) (own_fault t) (named_fault t) k s' o i (le-leb _ _ l) (le-leb _ _ (omega (arith, n, r))) (le-leb _ _ c))
+    (ap (checked (is_bad t) (own_fault t) (named_fault t) (nat_le (mark_at s t).level MAX_LEVELS) (nat_le (mark_at s t).nodes (MAX_NODES - old.nodes)) (nat_le (mark_at s t).cells MAX_RANGE_CELLS)) m
+    ∙ within_named (is_bad t) (nat_le (mark_at s t).level MAX_LEVELS) (nat_le (mark_at s t).nodes (MAX_NODES - old.nodes)) (nat_le (mark_at s t).cells MAX_RANGE_CELLS) (own_fault t) (named_fault t) k s' o i (le-leb _ _ l) (le-leb _ _ (omega (arith, n, r))) (le-leb _ _ c))
 
 pub none_left : (o : Option FaultKind) → ((k : FaultKind) → o ≢ Some k) → o ≡ None
 none_left (Some k) h = absurd (h k refl)
@@ -279,16 +282,16 @@ pub many_range_err : (s : Option ℕ) (w : Word) (old mid : Rest) (r : Result Tr
 many_range_err s w old mid r h a = err_of r (FailsSecond w mid) (FailsAlone Many old) (λ e f. fails_range_second s w old mid e h a f)
 
 -- operators
-run_operator : (op : Op) (fs : List Frame) (old new : Rest) → Took (Token.Operator op) 1 old new → old.nodes < 512 → run_rest old (operator fs) ≡ run_rest new (operand 0 fs)
+run_operator : (op : Op) (fs : List Frame) (old new : Rest) → Took (Token.Operator op) 1 old new → old.nodes < MAX_NODES → run_rest old (operator fs) ≡ run_rest new (operand 0 fs)
 run_operator op fs old new a h = run_node (Token.Operator op) old new (operator fs) (operand 0 fs) a h refl refl refl refl
 
-runs_over : (d : ℕ) (op : Op) (old mid mid' : Rest) → RunsOperand d old mid → Took (Token.Operator op) 1 mid mid' → mid.nodes < 512 → (fs : List Frame) → open_levels fs ≡ d → run_rest old (operand 0 fs) ≡ run_rest mid' (operand 0 fs)
+runs_over : (d : ℕ) (op : Op) (old mid mid' : Rest) → RunsOperand d old mid → Took (Token.Operator op) 1 mid mid' → mid.nodes < MAX_NODES → (fs : List Frame) → open_levels fs ≡ d → run_rest old (operand 0 fs) ≡ run_rest mid' (operand 0 fs)
 runs_over d op old mid mid' r e n fs h = r fs h ∙ run_operator op fs mid mid' e n
 
 pub expression_first : (own : Addr) (d : ℕ) (old new : Rest) (x : Expr) → ReadsSums own d old new x → ReadsExpression own d old new x
 expression_first own d old new x a = record { part = only_sum a.part; fits = a.fits; spelled = a.spelled; means = a.means; runs = a.runs }
 
-pub expression_more : (own : Addr) (d : ℕ) (op : Op) (old mid mid' new : Rest) (x y z : Expr) → ReadsExpression own d old mid x → Took (Token.Operator op) 1 mid mid' → mid.nodes < 512 → op_level op ≡ 1 → ReadsSums own d mid' new y → z ≡ Binary op x y → ReadsExpression own d old new z
+pub expression_more : (own : Addr) (d : ℕ) (op : Op) (old mid mid' new : Rest) (x y z : Expr) → ReadsExpression own d old mid x → Took (Token.Operator op) 1 mid mid' → mid.nodes < MAX_NODES → op_level op ≡ COMPARISON_LEVEL → ReadsSums own d mid' new y → z ≡ Binary op x y → ReadsExpression own d old new z
 expression_more own d op old mid mid' new x y z a e n l b m = record {
   part = compare a.part op b.part;
   fits = (a.fits, l, b.fits);
@@ -300,7 +303,7 @@ expression_more own d op old mid mid' new x y z a e n l b m = record {
 pub sums_first : (own : Addr) (d : ℕ) (old new : Rest) (x : Expr) → ReadsTerm own d old new x → ReadsSums own d old new x
 sums_first own d old new x a = record { part = only_term a.part; fits = a.fits; spelled = a.spelled; means = a.means; runs = a.runs }
 
-pub sums_more : (own : Addr) (d : ℕ) (op : Op) (old mid mid' new : Rest) (x y z : Expr) → ReadsSums own d old mid x → Took (Token.Operator op) 1 mid mid' → mid.nodes < 512 → op_level op ≡ 2 → ReadsTerm own d mid' new y → z ≡ Binary op x y → ReadsSums own d old new z
+pub sums_more : (own : Addr) (d : ℕ) (op : Op) (old mid mid' new : Rest) (x y z : Expr) → ReadsSums own d old mid x → Took (Token.Operator op) 1 mid mid' → mid.nodes < MAX_NODES → op_level op ≡ SUM_LEVEL → ReadsTerm own d mid' new y → z ≡ Binary op x y → ReadsSums own d old new z
 sums_more own d op old mid mid' new x y z a e n l b m = record {
   part = add a.part op b.part;
   fits = (a.fits, l, b.fits);
@@ -312,7 +315,7 @@ sums_more own d op old mid mid' new x y z a e n l b m = record {
 pub term_first : (own : Addr) (d : ℕ) (old new : Rest) (x : Expr) → ReadsSigned own d old new x → ReadsTerm own d old new x
 term_first own d old new x a = record { part = only_signed a.part; fits = a.fits; spelled = a.spelled; means = a.means; runs = λ fs k. a.runs 0 fs (omega (arith, k)) }
 
-pub term_more : (own : Addr) (d : ℕ) (op : Op) (old mid mid' new : Rest) (x y z : Expr) → ReadsTerm own d old mid x → Took (Token.Operator op) 1 mid mid' → mid.nodes < 512 → op_level op ≡ 3 → ReadsSigned own d mid' new y → z ≡ Binary op x y → ReadsTerm own d old new z
+pub term_more : (own : Addr) (d : ℕ) (op : Op) (old mid mid' new : Rest) (x y z : Expr) → ReadsTerm own d old mid x → Took (Token.Operator op) 1 mid mid' → mid.nodes < MAX_NODES → op_level op ≡ TERM_LEVEL → ReadsSigned own d mid' new y → z ≡ Binary op x y → ReadsTerm own d old new z
 term_more own d op old mid mid' new x y z a e n l b m = record {
   part = multiply a.part op b.part;
   fits = (a.fits, l, b.fits);
@@ -321,7 +324,7 @@ term_more own d op old mid mid' new x y z a e n l b m = record {
   runs = λ fs k. runs_over d op old mid mid' a.runs e n fs k ∙ b.runs 0 fs (omega (arith, k));
 }
 
-pub fails_over : (d : ℕ) (op : Op) (old mid mid' : Rest) (e : FormulaFault) → RunsOperand d old mid → Took (Token.Operator op) 1 mid mid' → mid.nodes < 512 → FailsOperand d mid' e → FailsOperand d old e
+pub fails_over : (d : ℕ) (op : Op) (old mid mid' : Rest) (e : FormulaFault) → RunsOperand d old mid → Took (Token.Operator op) 1 mid mid' → mid.nodes < MAX_NODES → FailsOperand d mid' e → FailsOperand d old e
 fails_over d op old mid mid' e r h n f fs k = fails_by _ _ e (runs_over d op old mid mid' r h n fs k) (f fs k)
 
 -- behind an operand the operator itself fails
@@ -344,14 +347,14 @@ sign_moves : (sign : Sign) (s : ℕ) (fs : List Frame) → move true (operand s 
 sign_moves Sign.Plus s fs = refl
 sign_moves Sign.Minus s fs = refl
 
-run_signing : (sign : Sign) (d s : ℕ) (fs : List Frame) (old new : Rest) → Took (Token.Operator (sign_op sign)) 1 old new → s + open_levels fs ≡ d → d < 32 → old.nodes < 512 → run_rest old (operand s fs) ≡ run_rest new (operand (suc s) fs)
+run_signing : (sign : Sign) (d s : ℕ) (fs : List Frame) (old new : Rest) → Took (Token.Operator (sign_op sign)) 1 old new → s + open_levels fs ≡ d → d < MAX_LEVELS → old.nodes < MAX_NODES → run_rest old (operand s fs) ≡ run_rest new (operand (suc s) fs)
 run_signing sign d s fs old new a h l n =
     took_run (Token.Operator (sign_op sign)) 1 old new (operand s fs) (operand (suc s) fs) a (record { moved = sign_moves sign s fs; known = refl; inside = refl; low = omega (arith, h, l); few = omega (arith, n); small = omega arith }) refl
 
 pub signed_plain : (own : Addr) (d : ℕ) (old new : Rest) (r : Result Tree FormulaFault) → IfOk r (λ tree. ReadsPrimary own d old new (expr_of tree)) → IfOk r (λ tree. ReadsSigned own d old new (expr_of tree))
 signed_plain own d old new r = ok_of r (ReadsPrimary own d old new) (ReadsSigned own d old new) (λ x a. record { part = plain a.part; fits = a.fits; spelled = a.spelled; means = a.means; runs = a.runs })
 
-pub signed_sign : (own : Addr) (sign : Sign) (d : ℕ) (old mid new : Rest) (x y : Expr) → Took (Token.Operator (sign_op sign)) 1 old mid → d < 32 → old.nodes < 512 → ReadsSigned own (d + 1) mid new x → y ≡ Unary sign x → ReadsSigned own d old new y
+pub signed_sign : (own : Addr) (sign : Sign) (d : ℕ) (old mid new : Rest) (x y : Expr) → Took (Token.Operator (sign_op sign)) 1 old mid → d < MAX_LEVELS → old.nodes < MAX_NODES → ReadsSigned own (d + 1) mid new x → y ≡ Unary sign x → ReadsSigned own d old new y
 signed_sign own sign d old mid new x y e l n a m = record {
   part = signed sign a.part;
   fits = a.fits;
@@ -360,29 +363,29 @@ signed_sign own sign d old mid new x y e l n a m = record {
   runs = λ s fs k. run_signing sign d s fs old mid e k l n ∙ a.runs (suc s) fs (omega (arith, k));
 }
 
-pub fails_signing : (sign : Sign) (d : ℕ) (old mid : Rest) (e : FormulaFault) → Took (Token.Operator (sign_op sign)) 1 old mid → d < 32 → old.nodes < 512 → FailsSigned (d + 1) mid e → FailsSigned d old e
+pub fails_signing : (sign : Sign) (d : ℕ) (old mid : Rest) (e : FormulaFault) → Took (Token.Operator (sign_op sign)) 1 old mid → d < MAX_LEVELS → old.nodes < MAX_NODES → FailsSigned (d + 1) mid e → FailsSigned d old e
 fails_signing sign d old mid e h l n f s fs k = fails_by _ _ e (run_signing sign d s fs old mid h k l n) (f (suc s) fs (omega (arith, k)))
 
-pub fails_sign : (sign : Sign) (d : ℕ) (old : Rest) (e : FormulaFault) → next_token old ≡ Token.Operator (sign_op sign) → d < 32 → FailsNode old e → FailsSigned d old e
+pub fails_sign : (sign : Sign) (d : ℕ) (old : Rest) (e : FormulaFault) → next_token old ≡ Token.Operator (sign_op sign) → d < MAX_LEVELS → FailsNode old e → FailsSigned d old e
 fails_sign sign d old e h l f s fs k = fails_at (Token.Operator (sign_op sign)) old e (operand s fs) (operand (suc s) fs) h f (sign_moves sign s fs) (omega (arith, k, l)) refl (omega arith)
 
 -- a token without faults of its own that opens a level too high
-step_deep : (n : ℕ) (s s' : State) (t : Token) → move true s t ≡ Ok s' → own_fault t ≡ None → 32 < (mark_at s t).level → step n s t ≡ Err FaultKind.TooDeep
+step_deep : (n : ℕ) (s s' : State) (t : Token) → move true s t ≡ Ok s' → own_fault t ≡ None → MAX_LEVELS < (mark_at s t).level → step n s t ≡ Err FaultKind.TooDeep
 step_deep n s s' t m o h =
-    ap₂ (λ e v. checked (is_bad t) e (named_fault t) (nat_le (mark_at s t).level 32) (nat_le (mark_at s t).nodes (512 - n)) (nat_le (mark_at s t).cells 65536) v) o m
-    ∙ ap (λ b. within None (named_fault t) b (nat_le (mark_at s t).nodes (512 - n)) (nat_le (mark_at s t).cells 65536) s') (lt-leb _ _ h)
+    ap₂ (λ e v. checked (is_bad t) e (named_fault t) (nat_le (mark_at s t).level MAX_LEVELS) (nat_le (mark_at s t).nodes (MAX_NODES - n)) (nat_le (mark_at s t).cells MAX_RANGE_CELLS) v) o m
+    ∙ ap (λ b. within None (named_fault t) b (nat_le (mark_at s t).nodes (MAX_NODES - n)) (nat_le (mark_at s t).cells MAX_RANGE_CELLS) s') (lt-leb _ _ h)
 
-fails_deep : (old : Rest) (e : FormulaFault) (s s' : State) (t : Token) → next_token old ≡ t → e ≡ Bad (next_place old) FaultKind.TooDeep → move true s t ≡ Ok s' → own_fault t ≡ None → 32 < (mark_at s t).level → Fails e (run_rest old s)
+fails_deep : (old : Rest) (e : FormulaFault) (s s' : State) (t : Token) → next_token old ≡ t → e ≡ Bad (next_place old) FaultKind.TooDeep → move true s t ≡ Ok s' → own_fault t ≡ None → MAX_LEVELS < (mark_at s t).level → Fails e (run_rest old s)
 fails_deep old e s s' t h b m o l = fails_stopped old e FaultKind.TooDeep s b (ap (step old.nodes s) h ∙ step_deep old.nodes s s' t m o l)
 
-pub fails_deep_sign : (sign : Sign) (d : ℕ) (old : Rest) (e : FormulaFault) → next_token old ≡ Token.Operator (sign_op sign) → 32 ≤ d → e ≡ Bad (next_place old) FaultKind.TooDeep → FailsSigned d old e
+pub fails_deep_sign : (sign : Sign) (d : ℕ) (old : Rest) (e : FormulaFault) → next_token old ≡ Token.Operator (sign_op sign) → MAX_LEVELS ≤ d → e ≡ Bad (next_place old) FaultKind.TooDeep → FailsSigned d old e
 fails_deep_sign sign d old e h l b s fs k = fails_deep old e (operand s fs) (operand (suc s) fs) (Token.Operator (sign_op sign)) h b (sign_moves sign s fs) refl (omega (arith, k, l))
 
-pub fails_deep_group : (d : ℕ) (old : Rest) (e : FormulaFault) → next_token old ≡ Token.LeftParen → 32 ≤ d → e ≡ Bad (next_place old) FaultKind.TooDeep → FailsSigned d old e
+pub fails_deep_group : (d : ℕ) (old : Rest) (e : FormulaFault) → next_token old ≡ Token.LeftParen → MAX_LEVELS ≤ d → e ≡ Bad (next_place old) FaultKind.TooDeep → FailsSigned d old e
 fails_deep_group d old e h l b s fs k = fails_deep old e (operand s fs) (operand 0 (in_group s ∷ fs)) Token.LeftParen h b refl refl (omega (arith, k, l))
 
 -- primaries
-pub primary_literal : (own : Addr) (d : ℕ) (l : Literal) (old new : Rest) (x : Expr) → Took (Token.Literal l) 1 old new → old.nodes < 512 → own_fault (Token.Literal l) ≡ None → x ≡ literal_meaning l → ReadsPrimary own d old new x
+pub primary_literal : (own : Addr) (d : ℕ) (l : Literal) (old new : Rest) (x : Expr) → Took (Token.Literal l) 1 old new → old.nodes < MAX_NODES → own_fault (Token.Literal l) ≡ None → x ≡ literal_meaning l → ReadsPrimary own d old new x
 primary_literal own d l old new x e n o m = record {
   part = literal l;
   fits = tt;
@@ -394,13 +397,13 @@ primary_literal own d l old new x e n o m = record {
 pub fails_literal : (l : Literal) (d : ℕ) (old : Rest) (e : FormulaFault) → next_token old ≡ Token.Literal l → FailsNode old e → FailsSigned d old e
 fails_literal l d old e h f s fs k = fails_at (Token.Literal l) old e (operand s fs) (operator fs) h f refl (omega arith) refl (omega arith)
 
-run_left : (d s : ℕ) (fs : List Frame) (old new : Rest) → Took Token.LeftParen 0 old new → s + open_levels fs ≡ d → d < 32 → run_rest old (operand s fs) ≡ run_rest new (operand 0 (in_group s ∷ fs))
+run_left : (d s : ℕ) (fs : List Frame) (old new : Rest) → Took Token.LeftParen 0 old new → s + open_levels fs ≡ d → d < MAX_LEVELS → run_rest old (operand s fs) ≡ run_rest new (operand 0 (in_group s ∷ fs))
 run_left d s fs old new a h l = took_run Token.LeftParen 0 old new (operand s fs) (operand 0 (in_group s ∷ fs)) a (record { moved = refl; known = refl; inside = refl; low = omega (arith, h, l); few = omega arith; small = omega arith }) refl
 
 run_right_group : (s : ℕ) (fs : List Frame) (old new : Rest) → Took Token.RightParen 0 old new → run_rest old (operator (in_group s ∷ fs)) ≡ run_rest new (operator fs)
 run_right_group s fs old new a = run_quiet Token.RightParen old new (operator (in_group s ∷ fs)) (operator fs) a refl refl refl refl
 
-pub primary_group : (own : Addr) (d : ℕ) (old mid mid' new : Rest) (x : Expr) → Took Token.LeftParen 0 old mid → d < 32 → ReadsExpression own (d + 1) mid mid' x → Took Token.RightParen 0 mid' new → ReadsPrimary own d old new x
+pub primary_group : (own : Addr) (d : ℕ) (old mid mid' new : Rest) (x : Expr) → Took Token.LeftParen 0 old mid → d < MAX_LEVELS → ReadsExpression own (d + 1) mid mid' x → Took Token.RightParen 0 mid' new → ReadsPrimary own d old new x
 primary_group own d old mid mid' new x e l a h = record {
   part = group a.part;
   fits = a.fits;
@@ -409,7 +412,7 @@ primary_group own d old mid mid' new x e l a h = record {
   runs = λ s fs k. run_left d s fs old mid e k l ∙ a.runs (in_group s ∷ fs) (omega (arith, k)) ∙ run_right_group s fs mid' new h;
 }
 
-pub fails_group : (d : ℕ) (old mid : Rest) (e : FormulaFault) → Took Token.LeftParen 0 old mid → d < 32 → FailsOperand (d + 1) mid e → FailsSigned d old e
+pub fails_group : (d : ℕ) (old mid : Rest) (e : FormulaFault) → Took Token.LeftParen 0 old mid → d < MAX_LEVELS → FailsOperand (d + 1) mid e → FailsSigned d old e
 fails_group d old mid e h l f s fs k = fails_by _ _ e (run_left d s fs old mid h k l) (f (in_group s ∷ fs) (omega (arith, k)))
 
 pub level_from_1 : (op : Op) → 1 ≤ op_level op
@@ -421,7 +424,7 @@ group_stuck s fs Token.RightParen h r = absurd (r refl)
 group_stuck s fs t h r = refl
 
 -- a group that is not closed
-pub fails_unclosed : (own : Addr) (d : ℕ) (old mid mid' : Rest) (x : Expr) (e : FormulaFault) → Took Token.LeftParen 0 old mid → d < 32 → ReadsExpression own (d + 1) mid mid' x → token_level (next_token mid') ≡ 0 → next_token mid' ≢ Token.RightParen → e ≡ Bad (next_place mid') (misfit (next_token mid')) → FailsSigned d old e
+pub fails_unclosed : (own : Addr) (d : ℕ) (old mid mid' : Rest) (x : Expr) (e : FormulaFault) → Took Token.LeftParen 0 old mid → d < MAX_LEVELS → ReadsExpression own (d + 1) mid mid' x → token_level (next_token mid') ≡ 0 → next_token mid' ≢ Token.RightParen → e ≡ Bad (next_place mid') (misfit (next_token mid')) → FailsSigned d old e
 fails_unclosed own d old mid mid' x e h l a n r b s fs k =
     fails_by _ _ e (run_left d s fs old mid h k l ∙ a.runs (in_group s ∷ fs) (omega (arith, k))) (fails_misfit mid' e (operator (in_group s ∷ fs)) b (group_stuck s fs (next_token mid') n r))
 
@@ -442,10 +445,10 @@ fails_no_operand d old er g a b c p e w s fs k = fails_misfit old er (operand s 
 pub fails_unknown : (d : ℕ) (old : Rest) (e : FormulaFault) → next_token old ≡ Token.Function None → e ≡ Bad (next_place old) FaultKind.UnknownName → FailsSigned d old e
 fails_unknown d old e h b s fs k = fails_stopped old e FaultKind.UnknownName (operand s fs) b (ap (step old.nodes (operand s fs)) h)
 
-run_name : (s : ℕ) (f : Fun) (fs : List Frame) (old new : Rest) → Took (Token.Function (Some f)) 1 old new → old.nodes < 512 → run_rest old (operand s fs) ≡ run_rest new (named (Some f) s fs)
+run_name : (s : ℕ) (f : Fun) (fs : List Frame) (old new : Rest) → Took (Token.Function (Some f)) 1 old new → old.nodes < MAX_NODES → run_rest old (operand s fs) ≡ run_rest new (named (Some f) s fs)
 run_name s f fs old new a n = run_node (Token.Function (Some f)) old new (operand s fs) (named (Some f) s fs) a n refl refl refl refl
 
-run_opening : (d s : ℕ) (f : Fun) (fs : List Frame) (old new : Rest) → Took Token.LeftParen 0 old new → s + open_levels fs ≡ d → d < 32 → run_rest old (named (Some f) s fs) ≡ run_rest new (opened (Some f) s fs)
+run_opening : (d s : ℕ) (f : Fun) (fs : List Frame) (old new : Rest) → Took Token.LeftParen 0 old new → s + open_levels fs ≡ d → d < MAX_LEVELS → run_rest old (named (Some f) s fs) ≡ run_rest new (opened (Some f) s fs)
 run_opening d s f fs old new a h l = took_run Token.LeftParen 0 old new (named (Some f) s fs) (opened (Some f) s fs) a (record { moved = refl; known = refl; inside = refl; low = omega (arith, h, l); few = omega arith; small = omega arith }) refl
 
 pub fails_name : (f : Fun) (d : ℕ) (old : Rest) (e : FormulaFault) → next_token old ≡ Token.Function (Some f) → FailsNode old e → FailsSigned d old e
@@ -455,13 +458,13 @@ named_stuck : (f : Option Fun) (s : ℕ) (fs : List Frame) (t : Token) → t ≢
 named_stuck f s fs Token.LeftParen h = absurd (h refl)
 named_stuck f s fs t h = refl
 
-pub fails_no_paren : (f : Fun) (d : ℕ) (old mid : Rest) (e : FormulaFault) → Took (Token.Function (Some f)) 1 old mid → old.nodes < 512 → next_token mid ≢ Token.LeftParen → e ≡ Bad (next_place mid) (misfit (next_token mid)) → FailsSigned d old e
+pub fails_no_paren : (f : Fun) (d : ℕ) (old mid : Rest) (e : FormulaFault) → Took (Token.Function (Some f)) 1 old mid → old.nodes < MAX_NODES → next_token mid ≢ Token.LeftParen → e ≡ Bad (next_place mid) (misfit (next_token mid)) → FailsSigned d old e
 fails_no_paren f d old mid e a n h b s fs k = fails_by _ _ e (run_name s f fs old mid a n) (fails_misfit mid e (named (Some f) s fs) b (named_stuck (Some f) s fs (next_token mid) h))
 
-pub fails_deep_call : (f : Fun) (d : ℕ) (old mid : Rest) (e : FormulaFault) → Took (Token.Function (Some f)) 1 old mid → old.nodes < 512 → next_token mid ≡ Token.LeftParen → 32 ≤ d → e ≡ Bad (next_place mid) FaultKind.TooDeep → FailsSigned d old e
+pub fails_deep_call : (f : Fun) (d : ℕ) (old mid : Rest) (e : FormulaFault) → Took (Token.Function (Some f)) 1 old mid → old.nodes < MAX_NODES → next_token mid ≡ Token.LeftParen → MAX_LEVELS ≤ d → e ≡ Bad (next_place mid) FaultKind.TooDeep → FailsSigned d old e
 fails_deep_call f d old mid e a n h l b s fs k = fails_by _ _ e (run_name s f fs old mid a n) (fails_deep mid e (named (Some f) s fs) (opened (Some f) s fs) Token.LeftParen h b refl refl (omega (arith, k, l)))
 
-run_called : (d s : ℕ) (f : Fun) (fs : List Frame) (old mid ts : Rest) → s + open_levels fs ≡ d → Took (Token.Function (Some f)) 1 old mid → old.nodes < 512 → Took Token.LeftParen 0 mid ts → d < 32 → run_rest old (operand s fs) ≡ run_rest ts (opened (Some f) s fs)
+run_called : (d s : ℕ) (f : Fun) (fs : List Frame) (old mid ts : Rest) → s + open_levels fs ≡ d → Took (Token.Function (Some f)) 1 old mid → old.nodes < MAX_NODES → Took Token.LeftParen 0 mid ts → d < MAX_LEVELS → run_rest old (operand s fs) ≡ run_rest ts (opened (Some f) s fs)
 run_called d s f fs old mid ts k e n h l = run_name s f fs old mid e n ∙ run_opening d s f fs mid ts h k l
 
 run_opened : (f : Option Fun) (s : ℕ) (fs : List Frame) (old : Rest) → next_token old ≢ Token.RightParen → run_rest old (opened f s fs) ≡ run_rest old (argument (kind_at f 0) (in_call f 0 s ∷ fs))
@@ -475,7 +478,7 @@ run_opened f s fs old h = by_spots old.spots h
         by_token Token.RightParen h = absurd (h refl)
         by_token u h = refl
 
-pub primary_call : (own : Addr) (d : ℕ) (f : Fun) (old mid mid' new : Rest) (trees : Exprs) → Took (Token.Function (Some f)) 1 old mid → old.nodes < 512 → Took Token.LeftParen 0 mid mid' → d < 32 → next_token mid' ≢ Token.RightParen → ReadsArguments own f 0 (d + 1) mid' new trees → ReadsPrimary own d old new (Call f trees)
+pub primary_call : (own : Addr) (d : ℕ) (f : Fun) (old mid mid' new : Rest) (trees : Exprs) → Took (Token.Function (Some f)) 1 old mid → old.nodes < MAX_NODES → Took Token.LeftParen 0 mid mid' → d < MAX_LEVELS → next_token mid' ≢ Token.RightParen → ReadsArguments own f 0 (d + 1) mid' new trees → ReadsPrimary own d old new (Call f trees)
 primary_call own d f old mid mid' new trees e n h l r a = record {
   part = call (Some f) a.part;
   fits = a.fits;
@@ -484,7 +487,7 @@ primary_call own d f old mid mid' new trees e n h l r a = record {
   runs = λ s fs k. run_called d s f fs old mid mid' k e n h l ∙ run_opened (Some f) s fs mid' r ∙ a.runs s fs (omega (arith, k));
 }
 
-pub fails_call : (d : ℕ) (f : Fun) (old mid mid' : Rest) (er : FormulaFault) → Took (Token.Function (Some f)) 1 old mid → old.nodes < 512 → Took Token.LeftParen 0 mid mid' → d < 32 → next_token mid' ≢ Token.RightParen → FailsArguments f 0 (d + 1) mid' er → FailsSigned d old er
+pub fails_call : (d : ℕ) (f : Fun) (old mid mid' : Rest) (er : FormulaFault) → Took (Token.Function (Some f)) 1 old mid → old.nodes < MAX_NODES → Took Token.LeftParen 0 mid mid' → d < MAX_LEVELS → next_token mid' ≢ Token.RightParen → FailsArguments f 0 (d + 1) mid' er → FailsSigned d old er
 fails_call d f old mid mid' er e n h l r a s fs k = fails_by _ _ er (run_called d s f fs old mid mid' k e n h l ∙ run_opened (Some f) s fs mid' r) (a s fs (omega (arith, k)))
 
 if_ok : (b : Bool) (s : State) → b ≡ true → if_counted true b s ≡ Ok s
@@ -495,7 +498,7 @@ if_not : (b : Bool) (s : State) → b ≡ false → if_counted true b s ≡ Err 
 if_not false s h = refl
 if_not true s h = cc
 
-pub primary_none : (own : Addr) (d : ℕ) (f : Fun) (old mid mid' new : Rest) → Took (Token.Function (Some f)) 1 old mid → old.nodes < 512 → Took Token.LeftParen 0 mid mid' → d < 32 → enough f 0 ≡ true → Took Token.RightParen 0 mid' new → ReadsPrimary own d old new (Call f End)
+pub primary_none : (own : Addr) (d : ℕ) (f : Fun) (old mid mid' new : Rest) → Took (Token.Function (Some f)) 1 old mid → old.nodes < MAX_NODES → Took Token.LeftParen 0 mid mid' → d < MAX_LEVELS → enough f 0 ≡ true → Took Token.RightParen 0 mid' new → ReadsPrimary own d old new (Call f End)
 primary_none own d f old mid mid' new e n h l en r = record {
   part = call_none (Some f);
   fits = en;
@@ -505,12 +508,12 @@ primary_none own d f old mid mid' new e n h l en r = record {
 }
 
 step_counted : (n : ℕ) (s : State) (t : Token) → move true s t ≡ Err FaultKind.ArgumentCount → is_bad t ≡ false → step n s t ≡ Err FaultKind.ArgumentCount
-step_counted n s t m b = ap₂ (λ x v. checked x (own_fault t) (named_fault t) (nat_le (mark_at s t).level 32) (nat_le (mark_at s t).nodes (512 - n)) (nat_le (mark_at s t).cells 65536) v) b m
+step_counted n s t m b = ap₂ (λ x v. checked x (own_fault t) (named_fault t) (nat_le (mark_at s t).level MAX_LEVELS) (nat_le (mark_at s t).nodes (MAX_NODES - n)) (nat_le (mark_at s t).cells MAX_RANGE_CELLS) v) b m
 
 fails_counted : (old : Rest) (e : FormulaFault) (s : State) (t : Token) → next_token old ≡ t → e ≡ Bad (next_place old) FaultKind.ArgumentCount → move true s t ≡ Err FaultKind.ArgumentCount → is_bad t ≡ false → Fails e (run_rest old s)
 fails_counted old e s t h b m z = fails_stopped old e FaultKind.ArgumentCount s b (ap (step old.nodes s) h ∙ step_counted old.nodes s t m z)
 
-pub fails_none : (d : ℕ) (f : Fun) (old mid mid' : Rest) (er : FormulaFault) → Took (Token.Function (Some f)) 1 old mid → old.nodes < 512 → Took Token.LeftParen 0 mid mid' → d < 32 → enough f 0 ≡ false → next_token mid' ≡ Token.RightParen → er ≡ Bad (next_place mid') FaultKind.ArgumentCount → FailsSigned d old er
+pub fails_none : (d : ℕ) (f : Fun) (old mid mid' : Rest) (er : FormulaFault) → Took (Token.Function (Some f)) 1 old mid → old.nodes < MAX_NODES → Took Token.LeftParen 0 mid mid' → d < MAX_LEVELS → enough f 0 ≡ false → next_token mid' ≡ Token.RightParen → er ≡ Bad (next_place mid') FaultKind.ArgumentCount → FailsSigned d old er
 fails_none d f old mid mid' er e n h l en r b s fs k = fails_by _ _ er (run_called d s f fs old mid mid' k e n h l) (fails_counted mid' er (opened (Some f) s fs) Token.RightParen r b (if_not (enough f 0) (operator fs) en) refl)
 
 -- arguments
@@ -627,7 +630,7 @@ run_sheet [] end n fs h = refl
 run_sheet (t ∷ ts) end n fs h = by_token t.token h
   where
     by_token : (u : Token) → sheet_range_ahead (u ∷ tokens_of ts) ≡ false → run_on (run ts end (n + (mark_at (sheet Many fs) u).nodes)) t.place (step n (sheet Many fs) u) ≡ run_on (run ts end (n + (mark_at (sheet Plain fs) u).nodes)) t.place (step n (sheet Plain fs) u)
-    by_token (Token.SheetReference w) h = same_steps false (own_fault (Token.SheetReference w)) (named_fault (Token.SheetReference w)) true (nat_le 1 (512 - n)) true (corner Many w fs) (operator fs) (run ts end (n + 1)) t.place (run_corner ts end (n + 1) w fs h)
+    by_token (Token.SheetReference w) h = same_steps false (own_fault (Token.SheetReference w)) (named_fault (Token.SheetReference w)) true (nat_le 1 (MAX_NODES - n)) true (corner Many w fs) (operator fs) (run ts end (n + 1)) t.place (run_corner ts end (n + 1) w fs h)
     by_token u h = refl
 
 run_many : (ts : List Spot) (end n : ℕ) (fs : List Frame) → range_ahead (tokens_of ts) ≡ false → run ts end n (argument Many fs) ≡ run ts end n (operand 0 fs)
@@ -635,8 +638,8 @@ run_many [] end n fs h = refl
 run_many (t ∷ ts) end n fs h = by_token t.token h
   where
     by_token : (u : Token) → range_ahead (u ∷ tokens_of ts) ≡ false → run_on (run ts end (n + (mark_at (argument Many fs) u).nodes)) t.place (step n (argument Many fs) u) ≡ run_on (run ts end (n + (mark_at (operand 0 fs) u).nodes)) t.place (step n (operand 0 fs) u)
-    by_token (Token.Reference w) h = same_steps false (own_fault (Token.Reference w)) (named_fault (Token.Reference w)) true (nat_le 1 (512 - n)) true (corner Many w fs) (operator fs) (run ts end (n + 1)) t.place (run_corner ts end (n + 1) w fs h)
-    by_token (Token.Prefix x) h = same_steps false None (named_fault (Token.Prefix x)) true (nat_le 0 (512 - n)) true (sheet Many fs) (sheet Plain fs) (run ts end (n + 0)) t.place (run_sheet ts end (n + 0) fs h)
+    by_token (Token.Reference w) h = same_steps false (own_fault (Token.Reference w)) (named_fault (Token.Reference w)) true (nat_le 1 (MAX_NODES - n)) true (corner Many w fs) (operator fs) (run ts end (n + 1)) t.place (run_corner ts end (n + 1) w fs h)
+    by_token (Token.Prefix x) h = same_steps false None (named_fault (Token.Prefix x)) true (nat_le 0 (MAX_NODES - n)) true (sheet Many fs) (sheet Plain fs) (run ts end (n + 0)) t.place (run_sheet ts end (n + 0) fs h)
     by_token u h = refl
 
 argument_many : (own : Addr) (d : ℕ) (old new : Rest) (x : Expr) → range_ahead (tokens_left old) ≡ false → token_level (next_token new) ≡ 0 → ReadsExpression own d old new x → ReadsArgument own Many d old new x

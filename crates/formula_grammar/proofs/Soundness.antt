@@ -7,6 +7,9 @@ use Rattle.std.specs.Prelude.{pos, negsuc, ◌-ℤ◌, ◌+ℤ◌, int_le, ◌&&
 use Rattle.cell_values.specs.declared.address.Addr.{Addr}
 use Rattle.cell_values.specs.Areas.{height, width, between_cells}
 use Rattle.cell_values.specs.Numbers.{fits}
+use Rattle.cell_values.specs.declared.TheConstants.{LAST_COLUMN, LAST_ROW, MAX_RANGE_CELLS}
+use Rattle.formula_trees.specs.declared.TheConstants.{MAX_LEVELS}
+use Rattle.formula_trees.specs.declared.levels.TheConstants.{COMPARISON_LEVEL, SUM_LEVEL, TERM_LEVEL, SIGN_LEVEL, OPERAND_LEVEL}
 use Rattle.formula_trees.specs.declared.tree.Fun.{Fun}
 use Rattle.formula_trees.specs.declared.tree.Op.{Op}
 use Rattle.formula_trees.specs.declared.tree.Sign.{Sign}
@@ -33,23 +36,23 @@ split_all P (x ∷ a) b h = let r = split_all P a b h.1 in ((h.0, r.0), r.1)
 record Fine (ts : List Token) (ms : List Mark) : Type 0 where
   known : AllByRecursion (λ t. own_fault t ≡ None) ts
   inside : AllByRecursion (λ t. named_fault t ≡ None) ts
-  low : AllByRecursion (λ m. m.level ≤ 32) ms
-  small : AllByRecursion (λ m. m.cells ≤ 65536) ms
+  low : AllByRecursion (λ m. m.level ≤ MAX_LEVELS) ms
+  small : AllByRecursion (λ m. m.cells ≤ MAX_RANGE_CELLS) ms
 
 fine_front : (a b : List Token) (m n : List Mark) → Fine (a ++ b) (m ++ n) → Fine a m
 fine_front a b m n f = record {
   known = (split_all (λ t. own_fault t ≡ None) a b f.known).0;
   inside = (split_all (λ t. named_fault t ≡ None) a b f.inside).0;
-  low = (split_all (λ m. m.level ≤ 32) m n f.low).0;
-  small = (split_all (λ m. m.cells ≤ 65536) m n f.small).0;
+  low = (split_all (λ m. m.level ≤ MAX_LEVELS) m n f.low).0;
+  small = (split_all (λ m. m.cells ≤ MAX_RANGE_CELLS) m n f.small).0;
 }
 
 fine_back : (a b : List Token) (m n : List Mark) → Fine (a ++ b) (m ++ n) → Fine b n
 fine_back a b m n f = record {
   known = (split_all (λ t. own_fault t ≡ None) a b f.known).1;
   inside = (split_all (λ t. named_fault t ≡ None) a b f.inside).1;
-  low = (split_all (λ m. m.level ≤ 32) m n f.low).1;
-  small = (split_all (λ m. m.cells ≤ 65536) m n f.small).1;
+  low = (split_all (λ m. m.level ≤ MAX_LEVELS) m n f.low).1;
+  small = (split_all (λ m. m.cells ≤ MAX_RANGE_CELLS) m n f.small).1;
 }
 
 fine_tail : (t : Token) (ts : List Token) (m : Mark) (ms : List Mark) → Fine (t ∷ ts) (m ∷ ms) → Fine ts ms
@@ -72,7 +75,7 @@ weaker least x n = grind (arith, nat_tests)
 record Good (own : Addr) (least : ℕ) (x : Expr) (d : ℕ) (ms : List Mark) : Type 0 where
   shape : IsExpression own x
   counts : nodes x ≡ total_nodes ms
-  flat : d + in_parentheses least x (levels x) ≤ 32
+  flat : d + in_parentheses least x (levels x) ≤ MAX_LEVELS
 
 good_weaker : (own : Addr) (least : ℕ) (x : Expr) (d : ℕ) (ms : List Mark) → Good own (suc least) x d ms → Good own least x d ms
 good_weaker own least x d ms g = let w = weaker least x (levels x) in let f = g.flat in record { shape = g.shape; counts = g.counts; flat = omega (arith, w, f) }
@@ -121,28 +124,28 @@ cell_named own s c = record { sheet = unwrap_or s own.sheet; row = c.row.number;
 corner_resolves : (own : Addr) (s : Option ℕ) (c : Corner) → is_inside c ≡ true → resolve own (reference_at own s (Word.Cell c)) ≡ Some (cell_named own s c)
 unfolding resolve
 corner_resolves own s c e =
-    let p = both_true (nat_le 1 c.col.number && nat_le c.col.number 256) (nat_le 1 c.row.number && nat_le c.row.number 65536) e in
-    let col = ap (up_to 256) (part_number own.col c.col.absolute c.col.number) ∙ up_to_number 256 c.col.number p.0 in
-    let row = ap (up_to 65536) (part_number own.row c.row.absolute c.row.number) ∙ up_to_number 65536 c.row.number p.1 in
-    ap (λ r. cell_at (unwrap_or s own.sheet) r (up_to 256 (part_at own.col (part own.col c.col)))) row ∙ ap (cell_at (unwrap_or s own.sheet) (Some c.row.number)) col
+    let p = both_true (nat_le 1 c.col.number && nat_le c.col.number LAST_COLUMN) (nat_le 1 c.row.number && nat_le c.row.number LAST_ROW) e in
+    let col = ap (up_to LAST_COLUMN) (part_number own.col c.col.absolute c.col.number) ∙ up_to_number LAST_COLUMN c.col.number p.0 in
+    let row = ap (up_to LAST_ROW) (part_number own.row c.row.absolute c.row.number) ∙ up_to_number LAST_ROW c.row.number p.1 in
+    ap (λ r. cell_at (unwrap_or s own.sheet) r (up_to LAST_COLUMN (part_at own.col (part own.col c.col)))) row ∙ ap (cell_at (unwrap_or s own.sheet) (Some c.row.number)) col
 
 resolves : (own : Addr) (s : Option ℕ) (w : Word) → word_fault w ≡ None → corner_fault w ≡ None → IsSome (resolve own (reference_at own s w))
 resolves own s (Word.Cell c) k i = subst IsSome (sym (corner_resolves own s c (by_none (is_inside c) FaultKind.OutsideSheet i))) refl
 resolves own s Word.Unknown k i = cc
 
-range_small : (own : Addr) (s : Option ℕ) (v w : Word) → word_fault v ≡ None → corner_fault v ≡ None → word_fault w ≡ None → corner_fault w ≡ None → cells_between v w ≤ 65536 → IsRange own (reference_at own s v) (reference_at own s w)
+range_small : (own : Addr) (s : Option ℕ) (v w : Word) → word_fault v ≡ None → corner_fault v ≡ None → word_fault w ≡ None → corner_fault w ≡ None → cells_between v w ≤ MAX_RANGE_CELLS → IsRange own (reference_at own s v) (reference_at own s w)
 unfolding height width
 range_small own s (Word.Cell c) (Word.Cell d) k i l j h =
     let a = corner_resolves own s c (by_none (is_inside c) FaultKind.OutsideSheet i) in
     let b = corner_resolves own s d (by_none (is_inside d) FaultKind.OutsideSheet j) in
     let e : area_of own (reference_at own s (Word.Cell c)) (reference_at own s (Word.Cell d)) ≡ Some (between_cells (cell_named own s c) (cell_named own s d)) =
     ap (λ x. area_between x (resolve own (reference_at own s (Word.Cell d)))) a ∙ ap (area_between (Some (cell_named own s c))) b in
-    record { one_sheet = refl; small = subst (λ o. IsSomeAnd o (λ r. height r * width r ≤ 65536)) (sym e) h }
+    record { one_sheet = refl; small = subst (λ o. IsSomeAnd o (λ r. height r * width r ≤ MAX_RANGE_CELLS)) (sym e) h }
 range_small own s (Word.Cell c) Word.Unknown k i l j h = cc
 range_small own s Word.Unknown w k i l j h = cc
 
 -- literals
-good_literal : (own : Addr) (l : Literal) (d : ℕ) → literal_fault l ≡ None → d ≤ 32 → Good own 5 (literal_meaning l) d (node ∷ [])
+good_literal : (own : Addr) (l : Literal) (d : ℕ) → literal_fault l ≡ None → d ≤ MAX_LEVELS → Good own OPERAND_LEVEL (literal_meaning l) d (node ∷ [])
 good_literal own (Literal.Number n) d k h = record { shape = by_none (int_le (pos 0) n && fits n) FaultKind.HugeNumber k; counts = refl; flat = omega (arith, h) }
 good_literal own Literal.HugeNumber d k h = cc
 good_literal own (Literal.Text t) d k h = record { shape = tt; counts = refl; flat = omega (arith, h) }
@@ -191,36 +194,36 @@ range_or own x h = h
 record GoodArgument (own : Addr) (k : Kind) (x : Expr) (d : ℕ) (ms : List Mark) : Type 0 where
   shape : OfKind own k x (IsExpression own x)
   counts : nodes x ≡ total_nodes ms
-  flat : d + levels x ≤ 32
+  flat : d + levels x ≤ MAX_LEVELS
 
 record GoodArguments (own : Addr) (f : Fun) (n : ℕ) (xs : Exprs) (d : ℕ) (ms : List Mark) : Type 0 where
   shape : HasArguments own f n xs
   counts : nodes_of xs ≡ total_nodes ms
-  flat : d + levels_of xs ≤ 32
+  flat : d + levels_of xs ≤ MAX_LEVELS
 
-good_value : (own : Addr) (x : Expr) (d : ℕ) (ms : List Mark) → Good own 1 x d ms → GoodArgument own Plain x d ms
-good_value own x d ms g = let i = at_least_inner 1 x (levels x) in let f = g.flat in record { shape = g.shape; counts = g.counts; flat = omega (arith, i, f) }
+good_value : (own : Addr) (x : Expr) (d : ℕ) (ms : List Mark) → Good own COMPARISON_LEVEL x d ms → GoodArgument own Plain x d ms
+good_value own x d ms g = let i = at_least_inner COMPARISON_LEVEL x (levels x) in let f = g.flat in record { shape = g.shape; counts = g.counts; flat = omega (arith, i, f) }
 
-good_many : (own : Addr) (x : Expr) (d : ℕ) (ms : List Mark) → Good own 1 x d ms → GoodArgument own Many x d ms
-good_many own x d ms g = let i = at_least_inner 1 x (levels x) in let f = g.flat in record { shape = range_or own x g.shape; counts = g.counts; flat = omega (arith, i, f) }
+good_many : (own : Addr) (x : Expr) (d : ℕ) (ms : List Mark) → Good own COMPARISON_LEVEL x d ms → GoodArgument own Many x d ms
+good_many own x d ms g = let i = at_least_inner COMPARISON_LEVEL x (levels x) in let f = g.flat in record { shape = range_or own x g.shape; counts = g.counts; flat = omega (arith, i, f) }
 
-good_lone : (own : Addr) (k : Kind) (l : Literal) (d : ℕ) → OfKind own k (literal_meaning l) (IsExpression own (literal_meaning l)) → literal_fault l ≡ None → d ≤ 32 → GoodArgument own k (literal_meaning l) d (node ∷ [])
+good_lone : (own : Addr) (k : Kind) (l : Literal) (d : ℕ) → OfKind own k (literal_meaning l) (IsExpression own (literal_meaning l)) → literal_fault l ≡ None → d ≤ MAX_LEVELS → GoodArgument own k (literal_meaning l) d (node ∷ [])
 good_lone own k l d s z h =
     let g = good_literal own l d z h in
-    let i = at_least_inner 5 (literal_meaning l) (levels (literal_meaning l)) in
+    let i = at_least_inner OPERAND_LEVEL (literal_meaning l) (levels (literal_meaning l)) in
     let f = g.flat in
     record { shape = s; counts = g.counts; flat = omega (arith, i, f) }
 
-good_group : (own : Addr) (x : Expr) (d : ℕ) (ms : List Mark) (m : Mark) → m.nodes ≡ 0 → Good own 1 x (suc d) ms → Good own 5 x d (m ∷ (ms ++ quiet ∷ []))
+good_group : (own : Addr) (x : Expr) (d : ℕ) (ms : List Mark) (m : Mark) → m.nodes ≡ 0 → Good own COMPARISON_LEVEL x (suc d) ms → Good own OPERAND_LEVEL x d (m ∷ (ms ++ quiet ∷ []))
 good_group own x d ms m z g =
     let total = total-append ms (quiet ∷ []) in
-    let i = at_least_inner 1 x (levels x) in
+    let i = at_least_inner COMPARISON_LEVEL x (levels x) in
     let o = at_most_outer 5 x (levels x) in
     let f = g.flat in
     let c = g.counts in
     record { shape = g.shape; counts = omega (arith, total, c, z); flat = omega (arith, i, o, f) }
 
-good_call : (own : Addr) (f : Fun) (xs : Exprs) (d : ℕ) (ms : List Mark) (m : Mark) → m.nodes ≡ 0 → GoodArguments own f 0 xs (suc d) ms → Good own 5 (Call f xs) d (node ∷ m ∷ (ms ++ quiet ∷ []))
+good_call : (own : Addr) (f : Fun) (xs : Exprs) (d : ℕ) (ms : List Mark) (m : Mark) → m.nodes ≡ 0 → GoodArguments own f 0 xs (suc d) ms → Good own OPERAND_LEVEL (Call f xs) d (node ∷ m ∷ (ms ++ quiet ∷ []))
 good_call own f xs d ms m z g =
     let total = total-append ms (quiet ∷ []) in
     let i = in_level 5 (Call f xs) (levels (Call f xs)) (omega arith) in
@@ -228,7 +231,7 @@ good_call own f xs d ms m z g =
     let c = g.counts in
     record { shape = g.shape; counts = omega (arith, total, c, z); flat = omega (arith, i, k) }
 
-good_sign : (own : Addr) (s : Sign) (x : Expr) (d : ℕ) (ms : List Mark) (m : Mark) → m.nodes ≡ 1 → Good own 4 x (suc d) ms → Good own 4 (Unary s x) d (m ∷ ms)
+good_sign : (own : Addr) (s : Sign) (x : Expr) (d : ℕ) (ms : List Mark) (m : Mark) → m.nodes ≡ 1 → Good own SIGN_LEVEL x (suc d) ms → Good own SIGN_LEVEL (Unary s x) d (m ∷ ms)
 good_sign own s x d ms m z g =
     let i = in_level 4 (Unary s x) (levels (Unary s x)) (omega arith) in
     let f = g.flat in
@@ -237,39 +240,39 @@ good_sign own s x d ms m z g =
 
 module _ (own : Addr) where
   mutual
-    good-expression : (e : Expression) (d : ℕ) → Fits true e → d ≤ 32 → Fine (spelling e) (marks e d) → Good own 1 (meaning own e) d (marks e d)
+    good-expression : (e : Expression) (d : ℕ) → Fits true e → d ≤ MAX_LEVELS → Fine (spelling e) (marks e d) → Good own COMPARISON_LEVEL (meaning own e) d (marks e d)
     good-expression (only_sum s) d fit h f = good_weaker own 1 (sums_meaning own s) d (sums_marks s d) (good-sums s d fit h f)
     good-expression (compare e op s) d fit h f =
         good_operator own 1 op (meaning own e) (sums_meaning own s) d (marks e d) (sums_marks s d) fit.1
         (good-expression e d fit.0 h (fine_front (spelling e) (Token.Operator op ∷ sums_spelling s) (marks e d) (node ∷ sums_marks s d) f))
         (good-sums s d fit.2 h (fine_tail (Token.Operator op) (sums_spelling s) node (sums_marks s d) (fine_back (spelling e) (Token.Operator op ∷ sums_spelling s) (marks e d) (node ∷ sums_marks s d) f)))
 
-    good-sums : (s : Sums) (d : ℕ) → SumsFit true s → d ≤ 32 → Fine (sums_spelling s) (sums_marks s d) → Good own 2 (sums_meaning own s) d (sums_marks s d)
+    good-sums : (s : Sums) (d : ℕ) → SumsFit true s → d ≤ MAX_LEVELS → Fine (sums_spelling s) (sums_marks s d) → Good own SUM_LEVEL (sums_meaning own s) d (sums_marks s d)
     good-sums (only_term t) d fit h f = good_weaker own 2 (term_meaning own t) d (term_marks t d) (good-term t d fit h f)
     good-sums (add s op t) d fit h f =
         good_operator own 2 op (sums_meaning own s) (term_meaning own t) d (sums_marks s d) (term_marks t d) fit.1
         (good-sums s d fit.0 h (fine_front (sums_spelling s) (Token.Operator op ∷ term_spelling t) (sums_marks s d) (node ∷ term_marks t d) f))
         (good-term t d fit.2 h (fine_tail (Token.Operator op) (term_spelling t) node (term_marks t d) (fine_back (sums_spelling s) (Token.Operator op ∷ term_spelling t) (sums_marks s d) (node ∷ term_marks t d) f)))
 
-    good-term : (t : Term) (d : ℕ) → TermFits true t → d ≤ 32 → Fine (term_spelling t) (term_marks t d) → Good own 3 (term_meaning own t) d (term_marks t d)
+    good-term : (t : Term) (d : ℕ) → TermFits true t → d ≤ MAX_LEVELS → Fine (term_spelling t) (term_marks t d) → Good own TERM_LEVEL (term_meaning own t) d (term_marks t d)
     good-term (only_signed s) d fit h f = good_weaker own 3 (signed_meaning own s) d (signed_marks s d) (good-signed s d fit h f)
     good-term (multiply t op s) d fit h f =
         good_operator own 3 op (term_meaning own t) (signed_meaning own s) d (term_marks t d) (signed_marks s d) fit.1
         (good-term t d fit.0 h (fine_front (term_spelling t) (Token.Operator op ∷ signed_spelling s) (term_marks t d) (node ∷ signed_marks s d) f))
         (good-signed s d fit.2 h (fine_tail (Token.Operator op) (signed_spelling s) node (signed_marks s d) (fine_back (term_spelling t) (Token.Operator op ∷ signed_spelling s) (term_marks t d) (node ∷ signed_marks s d) f)))
 
-    good-signed : (s : Signed) (d : ℕ) → SignedFits true s → d ≤ 32 → Fine (signed_spelling s) (signed_marks s d) → Good own 4 (signed_meaning own s) d (signed_marks s d)
+    good-signed : (s : Signed) (d : ℕ) → SignedFits true s → d ≤ MAX_LEVELS → Fine (signed_spelling s) (signed_marks s d) → Good own SIGN_LEVEL (signed_meaning own s) d (signed_marks s d)
     good-signed (plain p) d fit h f = good_weaker own 4 (primary_meaning own p) d (primary_marks p d) (good-primary p d fit h f)
     good-signed (signed sign s) d fit h f =
         good_sign own sign (signed_meaning own s) d (signed_marks s (suc d)) _ refl (good-signed s (suc d) fit f.low.0 (fine_tail (Token.Operator (sign_op sign)) (signed_spelling s) _ (signed_marks s (suc d)) f))
 
-    good-primary : (p : Primary) (d : ℕ) → PrimaryFits true p → d ≤ 32 → Fine (primary_spelling p) (primary_marks p d) → Good own 5 (primary_meaning own p) d (primary_marks p d)
+    good-primary : (p : Primary) (d : ℕ) → PrimaryFits true p → d ≤ MAX_LEVELS → Fine (primary_spelling p) (primary_marks p d) → Good own OPERAND_LEVEL (primary_meaning own p) d (primary_marks p d)
     good-primary (literal l) d fit h f = good_literal own l d f.known.0 h
     good-primary (reference x) d fit h f = record { shape = target_resolves own x (target_marks x) f; counts = sym (target_counts x); flat = omega (arith, h) }
     good-primary (group e) d fit h f =
         good_group own (meaning own e) d (marks e (suc d)) _ refl
         (good-expression e (suc d) fit f.low.0 (fine_front (spelling e) (Token.RightParen ∷ []) (marks e (suc d)) (quiet ∷ []) (fine_tail Token.LeftParen (spelling e ++ Token.RightParen ∷ []) _ (marks e (suc d) ++ quiet ∷ []) f)))
-    good-primary (call_none (Some g)) d fit h f = let low : suc d ≤ 32 = f.low.1.0 in record { shape = fit; counts = refl; flat = omega (arith, low) }
+    good-primary (call_none (Some g)) d fit h f = let low : suc d ≤ MAX_LEVELS = f.low.1.0 in record { shape = fit; counts = refl; flat = omega (arith, low) }
     good-primary (call_none None) d fit h f = absurd (not_unknown f.known.0)
     good-primary (call (Some g) xs) d fit h f =
         good_call own g (arguments_meaning own xs) d (arguments_marks xs (suc d)) _ refl
@@ -278,7 +281,7 @@ module _ (own : Addr) where
         (fine_tail Token.LeftParen (arguments_spelling xs ++ Token.RightParen ∷ []) _ (arguments_marks xs (suc d) ++ quiet ∷ []) (fine_tail (Token.Function (Some g)) (Token.LeftParen ∷ (arguments_spelling xs ++ Token.RightParen ∷ [])) node _ f))))
     good-primary (call None xs) d fit h f = absurd (not_unknown f.known.0)
 
-    good-arguments : (xs : Arguments) (g : Fun) (n d : ℕ) → IsTrue (takes_more g n) → ArgumentsFit true (Some g) n xs → d ≤ 32 → Fine (arguments_spelling xs) (arguments_marks xs d) → GoodArguments own g n (arguments_meaning own xs) d (arguments_marks xs d)
+    good-arguments : (xs : Arguments) (g : Fun) (n d : ℕ) → IsTrue (takes_more g n) → ArgumentsFit true (Some g) n xs → d ≤ MAX_LEVELS → Fine (arguments_spelling xs) (arguments_marks xs d) → GoodArguments own g n (arguments_meaning own xs) d (arguments_marks xs d)
     good-arguments (last x) g n d t fit h f =
         let a = good-argument x (kind_of g n) d fit.0 fit.1 h f in
         let c = a.counts in
@@ -297,7 +300,7 @@ module _ (own : Addr) where
         let l' = b.flat in
         record { shape = (t, a.shape, b.shape); counts = omega (arith, total, c, c'); flat = omega (arith, l, l') }
 
-    good-argument : (x : Argument) (k : Kind) (d : ℕ) → IsOfKind k x → ArgumentFits true x → d ≤ 32 → Fine (argument_spelling x) (argument_marks x d) → GoodArgument own k (argument_meaning own x) d (argument_marks x d)
+    good-argument : (x : Argument) (k : Kind) (d : ℕ) → IsOfKind k x → ArgumentFits true x → d ≤ MAX_LEVELS → Fine (argument_spelling x) (argument_marks x d) → GoodArgument own k (argument_meaning own x) d (argument_marks x d)
     good-argument (value e) Plain d kind fit h f = good_value own (meaning own e) d (marks e d) (good-expression e d fit h f)
     good-argument (value e) Many d kind fit h f = good_many own (meaning own e) d (marks e d) (good-expression e d fit h f)
     good-argument (value e) Place d kind fit h f = absurd kind
@@ -326,7 +329,7 @@ module _ (own : Addr) where
         small = r.small;
       } in
       let g = good-expression e 0 r.fits (omega arith) fine in
-      let i = at_least_inner 1 (meaning own e) (levels (meaning own e)) in
+      let i = at_least_inner COMPARISON_LEVEL (meaning own e) (levels (meaning own e)) in
       let f = g.flat in
       let c = g.counts in
       let few = r.few in

@@ -2,6 +2,7 @@
 use Rattle.std.proofs.Common.{◌≡◌, ℕ, suc, ◌<◌, ◌≤◌, List, [], ◌∷◌, ◌++◌, true, cond, Option, Some, None, nat_le, le-leb, refl, sym, ap, ◌∙◌, subst, arith, append_assoc, ⊎_elim}
 use Rattle.std.proofs.lemmas.Bool.{lt-leb}
 use Rattle.cell_values.specs.declared.address.Addr.{Addr}
+use Rattle.formula_trees.specs.declared.levels.TheConstants.{COMPARISON_LEVEL, SUM_LEVEL, TERM_LEVEL}
 use Rattle.formula_trees.specs.declared.tree.Fun.{Fun}
 use Rattle.formula_trees.specs.declared.tree.Op.{Op}
 use Rattle.formula_trees.specs.declared.tree.Sign.{Sign}
@@ -111,18 +112,18 @@ abbrev head_level : List Token → ℕ
 head_level [] = 0
 head_level (t ∷ ts) = token_level t
 
-level_to_3 : (op : Op) → op_level op ≤ 3
+level_to_3 : (op : Op) → op_level op ≤ TERM_LEVEL
 level_to_3 op = ⊎_elim (λ e. omega (arith, e)) (λ r. ⊎_elim (λ e. omega (arith, e)) (λ e. omega (arith, e)) r) (level_cases op)
 
 level_from_1 : (op : Op) → 1 ≤ op_level op
 level_from_1 op = ⊎_elim (λ e. omega (arith, e)) (λ r. ⊎_elim (λ e. omega (arith, e)) (λ e. omega (arith, e)) r) (level_cases op)
 
-at_most_3 : (u : List Token) → head_level u ≤ 3
+at_most_3 : (u : List Token) → head_level u ≤ TERM_LEVEL
 at_most_3 [] = omega arith
 at_most_3 (Token.Operator op ∷ u) = level_to_3 op
 at_most_3 (t ∷ u) = omega arith
 
-barrier : (st : List Pending) → Below 1 st → Below 0 st
+barrier : (st : List Pending) → Below COMPARISON_LEVEL st → Below 0 st
 barrier [] b = tt
 barrier (left y op ∷ st) b = let x = level_from_1 op in absurd (omega (arith, b, x))
 barrier (sign s ∷ st) b = absurd b
@@ -194,7 +195,7 @@ module _ (own : Addr) where
       by_token t u h = refl
 
   mutual
-    build-expression : (e : Expression) (u : List Token) (st : List Pending) → Fits true e → head_level u ≤ 1 → Below 1 st → build (spelling e ++ u) st want ≡ build u st (have (meaning own e))
+    build-expression : (e : Expression) (u : List Token) (st : List Pending) → Fits true e → head_level u ≤ COMPARISON_LEVEL → Below COMPARISON_LEVEL st → build (spelling e ++ u) st want ≡ build u st (have (meaning own e))
     build-expression (only_sum s) u st fit h b = build-sums s u st fit (omega (arith, h)) (below_more 1 2 st (omega arith) b)
     build-expression (compare e op s) u st fit h b =
         ap (λ ts. build ts st want) (append_assoc (spelling e) (Token.Operator op ∷ sums_spelling s) u)
@@ -203,7 +204,7 @@ module _ (own : Addr) where
         ∙ build-sums s u (left (meaning own e) op ∷ st) fit.2 (omega (arith, h)) (omega (arith, fit.1))
         ∙ give_left u st _ _ op (omega (arith, fit.1, h))
 
-    build-sums : (s : Sums) (u : List Token) (st : List Pending) → SumsFit true s → head_level u ≤ 2 → Below 2 st → build (sums_spelling s ++ u) st want ≡ build u st (have (sums_meaning own s))
+    build-sums : (s : Sums) (u : List Token) (st : List Pending) → SumsFit true s → head_level u ≤ SUM_LEVEL → Below SUM_LEVEL st → build (sums_spelling s ++ u) st want ≡ build u st (have (sums_meaning own s))
     build-sums (only_term t) u st fit h b = build-term t u st fit (below_more 2 3 st (omega arith) b)
     build-sums (add s op t) u st fit h b =
         ap (λ ts. build ts st want) (append_assoc (sums_spelling s) (Token.Operator op ∷ term_spelling t) u)
@@ -212,7 +213,7 @@ module _ (own : Addr) where
         ∙ build-term t u (left (sums_meaning own s) op ∷ st) fit.2 (omega (arith, fit.1))
         ∙ give_left u st _ _ op (omega (arith, fit.1, h))
 
-    build-term : (t : Term) (u : List Token) (st : List Pending) → TermFits true t → Below 3 st → build (term_spelling t ++ u) st want ≡ build u st (have (term_meaning own t))
+    build-term : (t : Term) (u : List Token) (st : List Pending) → TermFits true t → Below TERM_LEVEL st → build (term_spelling t ++ u) st want ≡ build u st (have (term_meaning own t))
     build-term (only_signed s) u st fit b = build-signed s u st fit
     build-term (multiply t op s) u st fit b =
         ap (λ ts. build ts st want) (append_assoc (term_spelling t) (Token.Operator op ∷ signed_spelling s) u)
@@ -247,7 +248,7 @@ module _ (own : Addr) where
         ∙ build-argument x (Token.Comma ∷ (arguments_spelling xs ++ Token.RightParen ∷ u)) (calling f before ∷ st) fit.1 (omega arith) tt
         ∙ build-arguments xs f (suc n) (λ r. before (More (argument_meaning own x) r)) u st fit.3
 
-    build-argument : (x : Argument) (u : List Token) (st : List Pending) → ArgumentFits true x → head_level u ≤ 1 → Below 1 st → build (argument_spelling x ++ u) st want ≡ build u st (have (argument_meaning own x))
+    build-argument : (x : Argument) (u : List Token) (st : List Pending) → ArgumentFits true x → head_level u ≤ COMPARISON_LEVEL → Below COMPARISON_LEVEL st → build (argument_spelling x ++ u) st want ≡ build u st (have (argument_meaning own x))
     build-argument (value e) u st fit h b = build-expression e u st fit h b
     build-argument (cell (here w)) u st fit h b = refl
     build-argument (cell (on_sheet s w)) u st fit h b = refl

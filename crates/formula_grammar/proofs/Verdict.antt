@@ -3,6 +3,8 @@ use Rattle.std.proofs.Common.{◌≡◌, ◌≢◌, ℕ, suc, ◌+◌, ◌-◌, 
 use Rattle.std.proofs.lemmas.List.{get_or_at}
 use Rattle.std.specs.Prelude.{take, zero, pos, int_le, ◌&&◌, cond}
 use Rattle.cell_values.specs.Numbers.{fits}
+use Rattle.cell_values.specs.declared.TheConstants.{MAX_RANGE_CELLS}
+use Rattle.formula_trees.specs.declared.TheConstants.{MAX_NODES, MAX_LEVELS}
 use Rattle.formula_trees.specs.declared.tree.Fun.{Fun}
 use Rattle.formula_trees.specs.declared.tree.Sign.{Sign}
 use Rattle.formula_trees.specs.declared.functions.Kind.{Kind}
@@ -341,14 +343,14 @@ pub record Passes (n : ℕ) (s : State) (t : Token) (s' : State) : Type 0 where
   pub moved : move true s t ≡ Ok s'
   pub known : own_fault t ≡ None
   pub inside : named_fault t ≡ None
-  pub low : (mark_at s t).level ≤ 32
-  pub few : (mark_at s t).nodes ≤ 512 - n
-  pub small : (mark_at s t).cells ≤ 65536
+  pub low : (mark_at s t).level ≤ MAX_LEVELS
+  pub few : (mark_at s t).nodes ≤ MAX_NODES - n
+  pub small : (mark_at s t).cells ≤ MAX_RANGE_CELLS
 
 pub passes : (n : ℕ) (s : State) (t : Token) (s' : State) → step n s t ≡ Ok s' → Passes n s t s'
-passes n s t s' = by_case (is_bad t) (own_fault t) (named_fault t) (nat_le (mark_at s t).level 32) (nat_le (mark_at s t).nodes (512 - n)) (nat_le (mark_at s t).cells 65536) (move true s t) refl refl refl refl refl refl refl
+passes n s t s' = by_case (is_bad t) (own_fault t) (named_fault t) (nat_le (mark_at s t).level MAX_LEVELS) (nat_le (mark_at s t).nodes (MAX_NODES - n)) (nat_le (mark_at s t).cells MAX_RANGE_CELLS) (move true s t) refl refl refl refl refl refl refl
   where
-    by_case : (bad : Bool) (o l : Option FaultKind) (low few small : Bool) (m : Move) → is_bad t ≡ bad → own_fault t ≡ o → named_fault t ≡ l → nat_le (mark_at s t).level 32 ≡ low → nat_le (mark_at s t).nodes (512 - n) ≡ few → nat_le (mark_at s t).cells 65536 ≡ small → move true s t ≡ m → checked bad o l low few small m ≡ Ok s' → Passes n s t s'
+    by_case : (bad : Bool) (o l : Option FaultKind) (low few small : Bool) (m : Move) → is_bad t ≡ bad → own_fault t ≡ o → named_fault t ≡ l → nat_le (mark_at s t).level MAX_LEVELS ≡ low → nat_le (mark_at s t).nodes (MAX_NODES - n) ≡ few → nat_le (mark_at s t).cells MAX_RANGE_CELLS ≡ small → move true s t ≡ m → checked bad o l low few small m ≡ Ok s' → Passes n s t s'
     by_case bad None None true true true (Ok a) qb qo ql h f c m e = record { moved = m ∙ e; known = qo; inside = ql; low = leb-true _ _ h; few = leb-true _ _ f; small = leb-true _ _ c }
     by_case bad (Some o) l low few small (Ok a) qb qo ql h f c m e = cc
     by_case bad None l false few small (Ok a) qb qo ql h f c m e = cc
@@ -493,9 +495,9 @@ at_least_5 before t m st u (inr (inr (inr (inr (inr (inr h)))))) = let x = named
 abbrev Flaw : ℕ → State → Token → FaultKind → Type 0
 Flaw n s t m =
     (own_fault t ≡ Some m)
-    ⊎ ((m ≡ FaultKind.TooDeep) × (32 < (mark_at s t).level))
-    ⊎ ((m ≡ FaultKind.TooLong) × (512 < n + (mark_at s t).nodes))
-    ⊎ ((m ≡ FaultKind.LargeRange) × (65536 < (mark_at s t).cells))
+    ⊎ ((m ≡ FaultKind.TooDeep) × (MAX_LEVELS < (mark_at s t).level))
+    ⊎ ((m ≡ FaultKind.TooLong) × (MAX_NODES < n + (mark_at s t).nodes))
+    ⊎ ((m ≡ FaultKind.LargeRange) × (MAX_RANGE_CELLS < (mark_at s t).cells))
     ⊎ (named_fault t ≡ Some m)
 
 flawed : (before : List Token) (s : State) (t : Token) (m : FaultKind) (r : Reached before s) → Stands true (before ++ t ∷ []) × Stands false (before ++ t ∷ []) → Applies before t m → Flaw (total_nodes r.marks_so_far) s t m
@@ -513,23 +515,23 @@ flawed before s t m r st (inr (inr (inr (inr (inr (inl h)))))) =
     inr (inr (inr (inl (h.0, omega (arith, e, h.2)))))
 flawed before s t m r st (inr (inr (inr (inr (inr (inr h)))))) = inr (inr (inr (inr h)))
 
-no_flaw : (n : ℕ) → n ≤ 512 → (s : State) (t : Token) (s' : State) (m : FaultKind) → Passes n s t s' → Flaw n s t m → ⊥
+no_flaw : (n : ℕ) → n ≤ MAX_NODES → (s : State) (t : Token) (s' : State) (m : FaultKind) → Passes n s t s' → Flaw n s t m → ⊥
 no_flaw n w s t s' m p (inl h) = no_own t m p.known h
 no_flaw n w s t s' m p (inr (inl h)) = omega (arith, p.low, h.1)
 no_flaw n w s t s' m p (inr (inr (inl h))) = omega (arith, w, p.few, h.1)
 no_flaw n w s t s' m p (inr (inr (inr (inl h)))) = omega (arith, p.small, h.1)
 no_flaw n w s t s' m p (inr (inr (inr (inr h)))) = let x : ◌≡◌ {A = Option FaultKind} None (Some m) = sym p.inside ∙ h in cc
 
-no_line : (before : List Token) (s : State) (t : Token) (s' : State) (r : Reached before s) → total_nodes r.marks_so_far ≤ 512 → Passes (total_nodes r.marks_so_far) s t s' → (m : FaultKind) → Applies before t m → ⊥
+no_line : (before : List Token) (s : State) (t : Token) (s' : State) (r : Reached before s) → total_nodes r.marks_so_far ≤ MAX_NODES → Passes (total_nodes r.marks_so_far) s t s' → (m : FaultKind) → Applies before t m → ⊥
 no_line before s t s' r w p m a =
     no_flaw (total_nodes r.marks_so_far) w s t s' m p (flawed before s t m r (reached_stands (before ++ t ∷ []) s' (reached_more before s t s' r p.moved)) a)
 
 -- what is known of a token that stands behind n nodes, whose least flaw is k
 record Least (n : ℕ) (s : State) (t : Token) (k : ℕ) : Type 0 where
   own : own_fault t ≡ None
-  level : 6 < k → (mark_at s t).level ≤ 32
-  nodes : 7 < k → n + (mark_at s t).nodes ≤ 512
-  cells : 8 < k → (mark_at s t).cells ≤ 65536
+  level : 6 < k → (mark_at s t).level ≤ MAX_LEVELS
+  nodes : 7 < k → n + (mark_at s t).nodes ≤ MAX_NODES
+  cells : 8 < k → (mark_at s t).cells ≤ MAX_RANGE_CELLS
   named : k ≤ 9
 
 least_flaw : (n : ℕ) (s : State) (t : Token) (k : ℕ) (m : FaultKind) → Least n s t k → Flaw n s t m → k ≤ number_of m
@@ -556,8 +558,8 @@ record Lines (before : List Token) (t : Token) (n : FaultKind) : Type 0 where
   applies : Applies before t n
   least : (m : FaultKind) → Applies before t m → number_of n ≤ number_of m
 
-lines : (before : List Token) (s : State) (t : Token) (n : FaultKind) (r : Reached before s) → total_nodes r.marks_so_far ≤ 512 → step (total_nodes r.marks_so_far) s t ≡ Err n → Lines before t n
-lines before s t n r w = by_case (is_bad t) (own_fault t) (named_fault t) (nat_le (mark_at s t).level 32) (nat_le (mark_at s t).nodes (512 - total_nodes r.marks_so_far)) (nat_le (mark_at s t).cells 65536) (move true s t) (move false s t) refl refl refl refl refl refl refl refl (judged s t)
+lines : (before : List Token) (s : State) (t : Token) (n : FaultKind) (r : Reached before s) → total_nodes r.marks_so_far ≤ MAX_NODES → step (total_nodes r.marks_so_far) s t ≡ Err n → Lines before t n
+lines before s t n r w = by_case (is_bad t) (own_fault t) (named_fault t) (nat_le (mark_at s t).level MAX_LEVELS) (nat_le (mark_at s t).nodes (MAX_NODES - total_nodes r.marks_so_far)) (nat_le (mark_at s t).cells MAX_RANGE_CELLS) (move true s t) (move false s t) refl refl refl refl refl refl refl refl (judged s t)
   where
     numbered : (k : FaultKind) → Lines before t k → k ≡ n → Lines before t n
     numbered k l e = subst (Lines before t) e l
@@ -593,7 +595,7 @@ lines before s t n r w = by_case (is_bad t) (own_fault t) (named_fault t) (nat_l
         of_flaw (inr (inr (inr (inl h)))) = let y = own_from_1 t k o in omega (arith, y, ap number_of h.0)
         of_flaw (inr (inr (inr (inr h)))) = let y = own_from_1 t k o in let z = named_from_9 t m h in omega (arith, y, z)
 
-    least_named : (k : FaultKind) (a : State) → own_fault t ≡ None → named_fault t ≡ Some k → (mark_at s t).level ≤ 32 → (mark_at s t).nodes ≤ 512 - total_nodes r.marks_so_far → (mark_at s t).cells ≤ 65536 → move true s t ≡ Ok a → (m : FaultKind) → Applies before t m → number_of k ≤ number_of m
+    least_named : (k : FaultKind) (a : State) → own_fault t ≡ None → named_fault t ≡ Some k → (mark_at s t).level ≤ MAX_LEVELS → (mark_at s t).nodes ≤ MAX_NODES - total_nodes r.marks_so_far → (mark_at s t).cells ≤ MAX_RANGE_CELLS → move true s t ≡ Ok a → (m : FaultKind) → Applies before t m → number_of k ≤ number_of m
     least_named k a o q u v z e m x = of_flaw (flawed before s t m r (both a e) x)
       where
         of_flaw : Flaw (total_nodes r.marks_so_far) s t m → number_of k ≤ number_of m
@@ -603,7 +605,7 @@ lines before s t n r w = by_case (is_bad t) (own_fault t) (named_fault t) (nat_l
         of_flaw (inr (inr (inr (inl h)))) = absurd (omega (arith, z, h.1))
         of_flaw (inr (inr (inr (inr h)))) = same_named k m q h
 
-    by_case : (bad : Bool) (o l : Option FaultKind) (low few small : Bool) (m lo : Move) → is_bad t ≡ bad → own_fault t ≡ o → named_fault t ≡ l → nat_le (mark_at s t).level 32 ≡ low → nat_le (mark_at s t).nodes (512 - total_nodes r.marks_so_far) ≡ few → nat_le (mark_at s t).cells 65536 ≡ small → move true s t ≡ m → move false s t ≡ lo → Judged m lo → checked bad o l low few small m ≡ Err n → Lines before t n
+    by_case : (bad : Bool) (o l : Option FaultKind) (low few small : Bool) (m lo : Move) → is_bad t ≡ bad → own_fault t ≡ o → named_fault t ≡ l → nat_le (mark_at s t).level MAX_LEVELS ≡ low → nat_le (mark_at s t).nodes (MAX_NODES - total_nodes r.marks_so_far) ≡ few → nat_le (mark_at s t).cells MAX_RANGE_CELLS ≡ small → move true s t ≡ m → move false s t ≡ lo → Judged m lo → checked bad o l low few small m ≡ Err n → Lines before t n
     by_case true o l low few small (Err k) lo qb qo ql h f c m q jd e =
         numbered FaultKind.BadCharacter (record { applies = inl (bad_is t qb); least = λ i x. at_least_1 i }) cc
     by_case false o l low few small (Err k) (Err j) qb qo ql h f c m q jd e =
@@ -617,7 +619,7 @@ lines before s t n r w = by_case (is_bad t) (own_fault t) (named_fault t) (nat_l
         numbered o (record { applies = inl qo; least = least_own o a qo m }) cc
     by_case bad None l false few small (Ok a) lo qb qo ql h f c m q jd e =
         let st = both a m in
-        let high : 32 < (mark_at s t).level = leb-false _ _ h in
+        let high : MAX_LEVELS < (mark_at s t).level = leb-false _ _ h in
         let is = ap (λ x. x.level) (mark_is before r.marks_so_far s t r.strictly st.0) in
         numbered FaultKind.TooDeep (record {
           applies = inr (inr (inr (inl (refl, st.0, omega (arith, is, high)))));
@@ -625,8 +627,8 @@ lines before s t n r w = by_case (is_bad t) (own_fault t) (named_fault t) (nat_l
         }) cc
     by_case bad None l true false small (Ok a) lo qb qo ql h f c m q jd e =
         let st = both a m in
-        let more : 512 - total_nodes r.marks_so_far < (mark_at s t).nodes = leb-false _ _ f in
-        let many : 512 < total_nodes r.marks_so_far + (mark_at s t).nodes = omega (arith, more) in
+        let more : MAX_NODES - total_nodes r.marks_so_far < (mark_at s t).nodes = leb-false _ _ f in
+        let many : MAX_NODES < total_nodes r.marks_so_far + (mark_at s t).nodes = omega (arith, more) in
         let is = total_is before r.marks_so_far s t r.strictly st.0 in
         numbered FaultKind.TooLong (record {
           applies = inr (inr (inr (inr (inl (refl, st.0, omega (arith, is, many))))));
@@ -634,9 +636,9 @@ lines before s t n r w = by_case (is_bad t) (own_fault t) (named_fault t) (nat_l
         }) cc
     by_case bad None l true true false (Ok a) lo qb qo ql h f c m q jd e =
         let st = both a m in
-        let large : 65536 < (mark_at s t).cells = leb-false _ _ c in
+        let large : MAX_RANGE_CELLS < (mark_at s t).cells = leb-false _ _ c in
         let is = ap (λ x. x.cells) (mark_is before r.marks_so_far s t r.strictly st.0) in
-        let room : (mark_at s t).nodes ≤ 512 - total_nodes r.marks_so_far = leb-true _ _ f in
+        let room : (mark_at s t).nodes ≤ MAX_NODES - total_nodes r.marks_so_far = leb-true _ _ f in
         numbered FaultKind.LargeRange (record {
           applies = inr (inr (inr (inr (inr (inl (refl, st.0, omega (arith, is, large)))))));
           least = least_of 8 a m (record { own = qo; level = λ x. leb-true _ _ h; nodes = λ x. omega (arith, w, room); cells = λ x. absurd (omega (arith, x)); named = omega arith });
@@ -655,7 +657,7 @@ record Comes (before : List Token) (n : ℕ) (s : State) : Type 0 where
   reached : Reached before s
   nodes : total_nodes reached.marks_so_far ≡ n
   faultless : IsFaultless before
-  few : n ≤ 512
+  few : n ≤ MAX_NODES
 
 comes_none : Comes [] 0 start
 unfolding reached_none

@@ -4,3 +4,8 @@ pub mod Names
 pub mod Literals
 pub mod Plain
 pub mod Reading
+pub mod Held
+pub mod Lexed
+pub mod LexedWords
+pub mod LexedSigns
+pub mod Written

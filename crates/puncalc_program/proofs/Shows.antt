@@ -1,20 +1,16 @@
 -- The results by address tell what each cell shows.
-use Rattle.std.proofs.Common.{◌≡◌, ℕ, ◌⊎◌, inl, inr, List, [], ◌∷◌, Option, Some, None, Bool, true, false, cond, refl, sym, subst, ap, ◌∙◌, eqb, ◌&&◌, nat_cmp, is_eq, Ordering, Less, Equal, Greater, length, drop, drop-cons, get_or, ◌<◌, suc, arith}
-use Rattle.std.specs.Ordering.{ordering_then}
-use Rattle.std.specs.Map.{lookup}
+use Rattle.std.proofs.Common.{◌≡◌, ℕ, ◌⊎◌, inl, inr, List, [], ◌∷◌, Option, Some, None, Bool, true, false, cond, refl, sym, subst, ap, ◌∙◌, length, drop, drop-cons, get_or, ◌<◌, suc}
 use Rattle.std.specs.BTreeMap.{BTreeMap, Updates}
 use Rattle.cell_values.specs.declared.address.Addr.{Addr}
 use Rattle.cell_values.specs.declared.values.Shown.{Shown}
-use Rattle.cell_values.specs.declared.values.Value.{Value}
 use Rattle.cell_values.specs.Addresses.{same_addr}
 use Rattle.cell_values.specs.Order.{entry_at}
-use Rattle.cell_values.specs.Values.{IsShownOf, IsValueOf}
+use Rattle.cell_values.specs.Values.{IsShownOf}
 use Rattle.cell_values.proofs.Order.{cmp, lookup_is, same_cmp, same_addr-refl, same_addr-sym, same_addr-true}
-use Rattle.cell_values.specs.Texts.{Texts}
 use Rattle.formula_trees.specs.Expr.{Expr}
-use Rattle.demand_spec.specs.Book.{Book, Content, own, own_of, shown, formulas, formula_at, shown_from, finished, period}
+use Rattle.demand_spec.specs.Book.{Book, own, shown, formulas, formula_at}
 use Rattle.demand_spec.specs.Laws.{In}
-use Rattle.demand_spec.specs.Listed.{all_shown, shown_over, AreCellsOf, IsContentOf}
+use Rattle.demand_spec.specs.Listed.{all_shown, shown_over}
 use Rattle.demand_spec.proofs.Results.{shows_own, shows_its_texts}
 use Rattle.demand_spec.proofs.Texts.{content_text}
 use Rattle.demand_spec.proofs.Rounds.{in_formulas}

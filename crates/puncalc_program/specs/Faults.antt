@@ -52,7 +52,7 @@ IsFieldFault old at raw fault = IsFaultOfField old.texts at raw fault
 -- a refusal tells of a place in the sheet, and not of the words
 abbrev pub IsOfSheet : Refusal → Type 0
 IsOfSheet Refusal.Words = ⊥
-IsOfSheet (Refusal.Formula at place number) = IsOnSheet at
+IsOfSheet (Refusal.Formula at place kind) = IsOnSheet at
 IsOfSheet _ = Unit {0}
 
 abbrev pub IsFaultInSheet : LoadFault → Type 0

@@ -6,6 +6,7 @@ use Rattle.cell_values.specs.declared.fields.Raw.{Raw}
 use Rattle.cell_values.specs.Texts.{Texts}
 use Rattle.formula_trees.specs.Expr.{Expr}
 use Rattle.formula_tokens.specs.Tokens.{with_literals}
+use Rattle.formula_grammar.specs.declared.faults.FaultKind.{FaultKind}
 use Rattle.formula_grammar.specs.Reading.{Reading}
 use Rattle.sheet_csv.specs.declared.reading.SheetFault.{SheetFault}
 use Rattle.sheet_csv.specs.Sheet.{Sheet, sheet_fields, first_fault, cells_of}
@@ -27,7 +28,7 @@ abbrev pub Field : Type 0
 Field = Texts × Option Content
 
 -- a formula's tree, or the refusal for its fault
-abbrev pub formula_read : Texts → Addr → Result Expr (ℕ × ℕ) → Result Field Refusal
+abbrev pub formula_read : Texts → Addr → Result Expr (ℕ × FaultKind) → Result Field Refusal
 formula_read known at (Ok tree) = Ok (known, Some (Content.Formula tree))
 formula_read known at (Err fault) = Err (Refusal.Formula at fault.0 fault.1)
 

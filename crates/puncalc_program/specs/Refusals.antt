@@ -3,6 +3,7 @@ use Rattle.std.specs.Prelude.{ℕ, List, [], ◌∷◌, ◌++◌, codes}
 use Rattle.std.specs.Fmt.{decimal}
 use Rattle.cell_values.specs.Addresses.{IsOnSheet}
 use Rattle.cell_values.specs.CellText.{cell_text}
+use Rattle.formula_grammar.specs.FaultKinds.{number_of}
 use Rattle.puncalc_program.specs.declared.refusals.FieldFault.{FieldFault}
 use Rattle.puncalc_program.specs.declared.refusals.Refusal.{Refusal}
 
@@ -18,8 +19,8 @@ refusal_text Refusal.Words = codes "refused words"
 refusal_text Refusal.TooLong = codes "refused Sheet1: S4"
 refusal_text (Refusal.Field row col fault) =
     codes "refused Sheet1" ++ codes " row " ++ decimal row ++ codes " column " ++ decimal col ++ codes ": " ++ fault_name fault
-refusal_text (Refusal.Formula at place number) =
-    codes "refused Sheet1!" ++ cell_text at ++ codes " at " ++ decimal place ++ codes ": F" ++ decimal number
+refusal_text (Refusal.Formula at place kind) =
+    codes "refused Sheet1!" ++ cell_text at ++ codes " at " ++ decimal place ++ codes ": F" ++ decimal (number_of kind)
 
 -- the line, with its end
 abbrev pub refusal_line : Refusal → List ℕ
@@ -32,5 +33,5 @@ refusal_status _ = 3
 
 -- a formula that is refused stands in a sheet
 abbrev pub IsInSheet : Refusal → Type 0
-IsInSheet (Refusal.Formula at place number) = IsOnSheet at
+IsInSheet (Refusal.Formula at place kind) = IsOnSheet at
 IsInSheet _ = Unit {0}

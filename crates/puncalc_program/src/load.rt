@@ -154,8 +154,8 @@ fn read_cell(
         Raw::Bool(b) => Ok(Some(Cell::Bool(*b))),
         Raw::Formula(text) => match read_formula(alloc, text.as_str(), at, sheets, texts) {
             Ok(tree) => Ok(Some(Cell::Formula(tree))),
-            Err(FormulaFault::Bad { place, number }) => {
-                Err(LoadFault::Refused(Refusal::Formula(at, place, number)))
+            Err(FormulaFault::Bad { place, kind }) => {
+                Err(LoadFault::Refused(Refusal::Formula(at, place, kind)))
             }
             Err(FormulaFault::OutOfMemory) => Err(LoadFault::OutOfMemory),
         },

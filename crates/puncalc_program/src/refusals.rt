@@ -4,6 +4,7 @@ ghost use Rattle.std.specs.Prelude.{◌≡◌};
 ghost use Rattle.puncalc_program.specs.Refusals.{fault_name, IsInSheet};
 
 use cell_values::Addr;
+use formula_grammar::FaultKind;
 use std::alloc::{AllocError, Global};
 
 /// Why a field of the sheet is refused.
@@ -26,9 +27,8 @@ pub enum Refusal {
     TooLong,
     /// A field of the sheet: its row and column, counted from 1, and its fault.
     Field(usize, usize, FieldFault),
-    /// The formula of a cell: the place of its fault, counted in bytes from 0 at the `=`, and the fault's
-    /// number, 1 to 10.
-    Formula(Addr, u32, u8),
+    /// The formula of a cell: the place of its fault, counted in bytes from 0 at the `=`, and the fault.
+    Formula(Addr, u32, FaultKind),
 }
 
 impl FieldFault {
@@ -79,7 +79,7 @@ impl Refusal {
             Refusal::Words => String::from_str(alloc, "refused words"),
             Refusal::TooLong => String::from_str(alloc, "refused Sheet1: S4"),
             Refusal::Field(row, col, fault) => field_text(alloc, *row, *col, *fault),
-            Refusal::Formula(cell, place, number) => formula_text(alloc, *cell, *place, *number),
+            Refusal::Formula(cell, place, kind) => formula_text(alloc, *cell, *place, *kind),
         }
     }
 }
@@ -103,13 +103,19 @@ fn field_text(
     Ok(text)
 }
 
-fn formula_text(alloc: Global, cell: Addr, place: u32, number: u8) -> Result<String, AllocError>
+fn formula_text(
+    alloc: Global,
+    cell: Addr,
+    place: u32,
+    kind: FaultKind,
+) -> Result<String, AllocError>
     requires { IsOnSheet cell }
-    ensures { IfOk result (λ text. string_bytes text ≡ refusal_text (Refusal.Formula cell place number)) }
+    ensures { IfOk result (λ text. string_bytes text ≡ refusal_text (Refusal.Formula cell place kind)) }
 {
     let mut text = String::from_str(alloc, "refused Sheet1!")?;
     let name = cell.cell_text(alloc)?;
     text.push_str(&name)?;
+    let number = kind.number();
     write!(text, " at {place}: F{number}")?;
     Ok(text)
 }

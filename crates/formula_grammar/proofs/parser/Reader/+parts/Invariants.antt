@@ -1,4 +1,5 @@
 use Rattle.std.proofs.Common.{◌<◌, ◌≤◌, ◌+◌, length, ◌*◌}
+use Rattle.formula_trees.specs.declared.levels.TheConstants.{COMPARISON_LEVEL, SUM_LEVEL}
 use Rattle.formula_trees.specs.Expr.{expr_of}
 use Rattle.formula_grammar.specs.Rest.{next_token, token_level}
 use Rattle.formula_grammar.specs.Parts.{ReadsExpression, ReadsSums, ReadsTerm}
@@ -32,7 +33,7 @@ decreases-term l = 10 * length l.self.now.spots + 4
 abbrev pub invariant-expression-loop-op : goal.invariant-expression-loop-op
 invariant-expression-loop-op l = record {
   read : ReadsExpression l.at l.depth l.fn.self l.self (expr_of l.left);
-  next : token_level (next_token l.self) ≤ 1;
+  next : token_level (next_token l.self) ≤ COMPARISON_LEVEL;
   shorter : length l.self.spots < length l.fn.self.spots;
 }
 
@@ -42,7 +43,7 @@ decreases-expression-loop-op l = length l.self.spots
 abbrev pub invariant-sums-loop-op : goal.invariant-sums-loop-op
 invariant-sums-loop-op l = record {
   read : ReadsSums l.at l.depth l.fn.self l.self (expr_of l.left);
-  next : token_level (next_token l.self) ≤ 2;
+  next : token_level (next_token l.self) ≤ SUM_LEVEL;
   shorter : length l.self.spots < length l.fn.self.spots;
 }
 

@@ -1,7 +1,0 @@
-use Rattle.std.proofs.Common.{ap, ◌∙◌}
-use Rattle.shared_expressions.specs.declared.nodes.Node.{Node}
-use Rattle.formula_eval.proofs.Searches.{match_goes}
-use Rattle.formula_eval.proofs.continuations.match_on.Goals as goal
-
-pub returns-in-Cells-clause-goes : goal.returns-in-Cells-clause-goes
-returns-in-Cells-clause-goes c = match_goes c.args.pool.now c.args.texts.now c.args.at c.args.id c.args.v c.args.frames.now.frames c.in-Cells.field-0 c.search_on.result c.search_on.new.frames.frames (c.requires.call ∙ ap Node.Call c.requires.found) c.requires.key.1 c.in-Cells.ensures.same (c.search_on.ensures.goes c.args.texts.now c.requires.key)
