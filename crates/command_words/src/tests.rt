@@ -142,14 +142,14 @@ fn words_of(alloc: Global, line: &str) -> Result<Vec<String>, AllocError> {
 #[test]
 fn asks_for_what_the_words_say(rt: HostRuntime) -> Result<(), Fail> {
     let alloc = rt.alloc();
-    let mut count = 0;
+    let mut count: usize = 0;
     for line in LINES.lines() {
         let Some((words, want)) = line.trim_start().split_once(" => ") else {
             continue;
         };
         let asked = read_words(alloc, &words_of(alloc, words)?)?;
         assert_eq!(rt; spell(alloc, &asked)?.as_str(), want, "{words}");
-        count += 1;
+        count = count.saturating_add(1);
     }
     assert_eq!(rt; count, COUNT);
     let none = Vec::new(alloc);

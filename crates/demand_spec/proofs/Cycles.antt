@@ -16,12 +16,12 @@ use Rattle.demand_spec.specs.Laws.{In, Unfinished, NeedChain, Distinct, HasPerio
 use Rattle.demand_spec.proofs.Rounds.{in_formulas, finished_again}
 use Rattle.demand_spec.proofs.Loops.{follow_from, chain_follow}
 
--- distinct members of a list are no more than the list
+-- distinct cells that all stand in a list are no more than the list
 
 same_or_not : (a b : Addr) → (a ≡ b) ⊎ (a ≡ b → ⊥)
 same_or_not a b = ⊎_elim (λ (e : same_addr a b ≡ true). inl (same_addr-true a b e)) (λ (e : same_addr a b ≡ false). inr (λ q. let r = subst (λ z. same_addr a z ≡ true) q (same_addr-refl a) in cc)) (cases_Bool (same_addr a b))
 
-in_or_not : (a : Addr) (cs : List Addr) → In a cs ⊎ (In a cs → ⊥)
+pub in_or_not : (a : Addr) (cs : List Addr) → In a cs ⊎ (In a cs → ⊥)
 in_or_not a [] = inr (λ k. k)
 in_or_not a (c ∷ cs) = ⊎_elim (λ e. inl (inl e)) (λ (n : a ≡ c → ⊥). ⊎_elim (λ k. inl (inr k)) (λ (m : In a cs → ⊥). inr (⊎_elim n m)) (in_or_not a cs)) (same_or_not a c)
 
@@ -38,6 +38,7 @@ without x (y ∷ ys) (inr k) =
     let w = without x ys k in
     record { left = y ∷ w.left; shorter = ap suc w.shorter; still = λ c m n. ⊎_elim (λ d. inl d) (λ q. inr (w.still c q n)) m }
 
+-- distinct addresses, each one of another list, are no more than that list has
 pub no_more : (xs ys : List Addr) → Distinct xs → ((c : Addr) → In c xs → In c ys) → length xs ≤ length ys
 no_more [] ys d h = omega arith
 no_more (x ∷ xs) ys d h =

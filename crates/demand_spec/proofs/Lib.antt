@@ -2,7 +2,7 @@ pub mod Plans
 pub mod Rounds
 pub mod Loops
 pub mod Cycles
-pub mod Alike
+pub mod Same
 pub mod Local
 pub mod Walks
 pub mod Ordered
@@ -14,3 +14,12 @@ pub mod Listed
 pub mod Rules
 pub mod Halves
 pub mod Small
+pub mod Plain
+pub mod Like
+pub mod Mirror
+pub mod Untouched
+pub mod OneList
+pub mod Members
+pub mod Applied
+pub mod Spread
+pub mod Results

@@ -39,7 +39,7 @@ unfolding finished
 untouched_finished b cs closed c at = untouched b cs closed (length (formulas b)) c at
 
 -- what a cell demands is what it needs, where that is not finished
-need_from_demand : (b : Book) (c x : Addr) → Demands b c x → finished b x ≡ None → need b c ≡ Some x
+pub need_from_demand : (b : Book) (c x : Addr) → Demands b c x → finished b x ≡ None → need b c ≡ Some x
 unfolding need ask_cell
 need_from_demand b c x d n =
     subst (λ t. cell_needed (ask_formula b (finished b) c t) ≡ Some x) (sym d.is_formula)
@@ -81,10 +81,12 @@ distinct_after (c ∷ below) cs h = distinct_after below cs h.1
 abbrev go_on : Book → Option Addr → Option Addr
 go_on b o = option_and_then (need b) o
 
+-- the steps behind the first one
 pub follow_from : (b : Book) (c x : Addr) → need b c ≡ Some x → (j : ℕ) → follow b (suc j) c ≡ follow b j x
 follow_from b c x e zero = e
 follow_from b c x e (suc j) = ap (go_on b) (follow_from b c x e j)
 
+-- following on from where `i` steps lead
 pub follow_then : (b : Book) (i : ℕ) (c x : Addr) → follow b i c ≡ Some x → (j n : ℕ) → n ≡ j + i → follow b n c ≡ follow b j x
 follow_then b i c x e zero n q = (let same : n ≡ i = omega arith in subst (λ z. follow b z c ≡ Some x) (sym same) e)
 follow_then b i c x e (suc j) zero q = absurd (omega arith)
@@ -95,6 +97,7 @@ chain_step b [] y h j l = absurd (omega arith)
 chain_step b (s ∷ rest) y h zero l = h.0
 chain_step b (s ∷ rest) y h (suc j) l = chain_step b rest y h.1 j (omega arith)
 
+-- along a chain of needs the j-th step is its j-th cell
 pub chain_follow : (b : Book) (cs : List Addr) (y : Addr) → NeedChain b cs y → (j : ℕ) → j ≤ length cs → follow b j (get_or cs 0 y) ≡ Some (get_or cs j y)
 chain_follow b cs y h zero l = refl
 chain_follow b cs y h (suc j) l = ap (go_on b) (chain_follow b cs y h j (omega arith)) ∙ chain_step b cs y h j (omega arith)

@@ -1,7 +1,7 @@
 -- A book in order has each address once, and stays in order where a later cell is put behind it.
 use Rattle.cell_values.proofs.Order.{never_before}
-use Rattle.std.proofs.Common.{◌≡◌, ◌↔◌, ℕ, suc, ◌+◌, ◌<◌, ◌≤◌, inl, inr, ⊎_elim, List, [], ◌∷◌, ◌++◌, length, length-append, nat_eq, IsTrue, refl, sym, ap, ◌∙◌, subst, arith}
-use Rattle.std.proofs.lemmas.Bool.{eqb-true, eq-eqb}
+use Rattle.std.proofs.Common.{◌≡◌, ◌↔◌, ℕ, suc, ◌+◌, ◌<◌, ◌≤◌, inl, inr, ⊎_elim, List, [], ◌∷◌, ◌++◌, length, length-append, nat_le, IsTrue, refl, sym, ap, ◌∙◌, subst, arith}
+use Rattle.std.proofs.lemmas.Bool.{leb-true, le-leb}
 use Rattle.cell_values.specs.declared.address.Addr.{Addr}
 use Rattle.demand_spec.specs.declared.Cell.{Cell}
 use Rattle.demand_spec.specs.Book.{Content}
@@ -62,7 +62,7 @@ few_push_contents cs c n h =
     omega (arith, length-contents cs, length-contents (cs ++ c ∷ []))
 
 -- the test of a full book
-pub full_is : (cs : List (Addr × Cell)) (book : List (Addr × Content)) (most : ℕ) → contents cs ≡ book → IsTrue (nat_eq (length cs) most) ↔ (length book ≡ most)
+pub full_is : (cs : List (Addr × Cell)) (book : List (Addr × Content)) (most : ℕ) → contents cs ≡ book → IsTrue (nat_le most (length cs)) ↔ (most ≤ length book)
 full_is cs book most e =
     let same : length cs ≡ length book = sym (length-contents cs) ∙ ap length e in
-    (λ t. sym same ∙ eqb-true (length cs) most t, λ q. eq-eqb (length cs) most (same ∙ q))
+    (λ t. subst (λ z. most ≤ z) same (leb-true most (length cs) t), λ q. le-leb most (length cs) (subst (λ z. most ≤ z) (sym same) q))

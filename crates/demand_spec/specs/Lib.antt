@@ -9,3 +9,6 @@ pub mod Asks
 pub mod Recursion
 pub mod Rounds
 pub mod Given
+pub mod Like
+pub mod Edits
+pub mod Results

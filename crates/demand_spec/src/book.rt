@@ -86,9 +86,9 @@ impl PlainBook {
 
     /// Whether it has as many cells as a book may have.
     pub fn is_full(&self) -> bool
-        ensures { IsTrue result ↔ (length self.now ≡ MAX_BOOK_CELLS) }
+        ensures { IsTrue result ↔ (MAX_BOOK_CELLS ≤ length self.now) }
     {
-        self.cells().len() == MAX_BOOK_CELLS as usize
+        self.cells().len() >= MAX_BOOK_CELLS as usize
     }
 
     /// Appends a cell behind all others.

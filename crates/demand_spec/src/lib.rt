@@ -2,6 +2,9 @@
 #![tactic(auto)]
 
 ghost use Rattle.demand_spec.specs.Laws.{AskGrows, RoundsEnd, NeedIsThere, NeedIsMentioned, StackCloses, Carried, LoopsAreFound, ValuesShow, CyclesShow, LoopShows, OthersLead, PendingIsClosed, LoopInClosed, ShowsSame};
+ghost use Rattle.demand_spec.specs.Like.{MirroredBy, MirroredOutsideBy};
+ghost use Rattle.demand_spec.specs.Results.{ShowsOwn, ShowsItsTexts, NeedsAreLacking, DemandsAreNeeds};
+ghost use Rattle.demand_spec.specs.Edits.{CellsAreLookups, ListsAreMembers, EditApplies, AppliedOnly, TooLargeByLength, PendingListed, PendingListIsClosed, AllStayPending};
 ghost use Rattle.demand_spec.specs.Recursion.{LiteralGives, ReferenceGives, SignGives, OperatorGives, ModGives, QuotientGives, AbsGives, IfGives, ShortIfGives, AndGives, OrGives, NoneGive, NotGives, IfErrorGives, IsErrorGives, ChooseGives, FoldGives, FoldEnds, IndexGives, MatchGives, VLookupGives, HLookupGives};
 
 mod ask;
@@ -87,6 +90,53 @@ pub fn law_closed()
 /// What an edit does not reach shows the same.
 pub fn law_shows_same()
     ensures { ShowsSame }
+{}
+
+/// What corresponds in two books: cells, and values.
+pub trait Correspondence {
+    ghost use Rattle.demand_spec.specs.Like.{OnCells, OnValues};
+
+    ghost on_cells: { OnCells };
+
+    ghost on_values: { OnValues };
+}
+
+/// Cells of two books that correspond show what corresponds; where cells were touched, those that none of these reaches.
+pub fn law_mirrored<C: Correspondence>()
+    ensures all { MirroredBy C.on_cells C.on_values }
+    ensures outside { MirroredOutsideBy C.on_cells C.on_values }
+{}
+
+/// Cells in order are told by what is found at each address, and addresses in order by which they are.
+pub fn law_one_list()
+    ensures cells { CellsAreLookups }
+    ensures addresses { ListsAreMembers }
+{}
+
+/// An edit makes exactly the cells that `applied` says, and is too large exactly where these are too many.
+pub fn law_edits_apply()
+    ensures applies { EditApplies }
+    ensures alone { AppliedOnly }
+    ensures too_large { TooLargeByLength }
+{}
+
+/// The cells that an edit leaves pending are a list that a function tells, and they stay closed.
+pub fn law_pending_listed()
+    ensures listed { PendingListed }
+    ensures closed { PendingListIsClosed }
+    ensures all { AllStayPending }
+{}
+
+/// A cell without a formula shows its own value, and each value that is shown has a text number of the book.
+pub fn law_shown_values()
+    ensures others { ShowsOwn }
+    ensures texts { ShowsItsTexts }
+{}
+
+/// What a formula needs is mentioned and lacking, and what it demands it needs in the end.
+pub fn law_needs()
+    ensures lacking { NeedsAreLacking }
+    ensures demanded { DemandsAreNeeds }
 {}
 
 /// What an operator gives, from what its operands give, the left one first.

@@ -4,7 +4,8 @@ ghost use Rattle.cell_values.specs.Addresses.{IsBefore, IsOnSheet};
 ghost use Rattle.cell_values.specs.Texts.{Texts as Bytes, IsTextOf};
 ghost use Rattle.demand_spec.specs.Listed.{content_of, contents, IsSoundAt, IsContentOf, AreCellsOf, IsFormulaOf, AreArgumentsOf};
 ghost use Rattle.cell_values.specs.Order.{IsAfterAll, addresses};
-ghost use Rattle.formula_trees.specs.Expr.{expr_of, exprs_of};
+ghost use Rattle.formula_trees.specs.Expr.{expr_of, exprs_of, Binary, Call, End, More};
+ghost use Rattle.formula_trees.specs.Sound.{IsSound};
 
 use crate::stage::Stage;
 use crate::whole::finish;
@@ -131,6 +132,104 @@ fn loops_and_what_leads_into_them(rt: HostRuntime) -> Result<(), Fail> {
             assert_eq!(rt; letter(shows), want[i], "at {columns:?}");
         }
     }
+    Ok(())
+}
+
+// The cells of column A from row 1 on, each of which refers to the next one, and the last one to the first.
+fn ring(rt: &impl Abort, alloc: Global, texts: &Texts, count: u32) -> PlainBook
+    ensures { AreCellsOf texts.now result }
+{
+    let mut book = PlainBook::new(alloc);
+    for above in 0..count {
+        assert!(rt; above < 65_000);
+        let next = if above + 1 == count { 1 } else { above + 2 };
+        put_reference(rt, &mut book, texts, place(above + 1, 1), place(next, 1));
+    }
+    book
+}
+
+#[test]
+fn cells_of_a_loop_show_how_many_they_are(rt: HostRuntime) -> Result<(), Fail> {
+    let texts = Texts::new(rt.alloc());
+    for count in [1, 2, 1000] {
+        let book = ring(&rt, rt.alloc(), &texts, count);
+        let mut marks = 0;
+        for &(_, shows) in &slow_shown(rt.alloc(), &book, &texts)? {
+            assert_eq!(rt; shows, Shown::Cycle(count));
+            marks = u32::saturating_add(marks, 1);
+        }
+        assert_eq!(rt; marks, count);
+    }
+    Ok(())
+}
+
+fn operation(rt: &impl Abort, alloc: Global, op: Op, a: Tree, b: Tree) -> Tree
+    ensures { expr_of result ≡ Binary op (expr_of a) (expr_of b) }
+{
+    let a = Box::new(alloc, a).expect(rt, "memory");
+    let b = Box::new(alloc, b).expect(rt, "memory");
+    Tree::Binary(op, a, b)
+}
+
+fn if_error(rt: &impl Abort, alloc: Global, a: Tree, b: Tree) -> Tree
+    ensures { expr_of result ≡ Call Fun.IfError (More (expr_of a) (More (expr_of b) End)) }
+{
+    let b = Box::new(alloc, b).expect(rt, "memory");
+    let end = Box::new(alloc, Args::End).expect(rt, "memory");
+    let rest = Box::new(alloc, Args::More(b, end)).expect(rt, "memory");
+    let a = Box::new(alloc, a).expect(rt, "memory");
+    Tree::Call(Fun::IfError, Args::More(a, rest))
+}
+
+// What A1 with the formula and B1 with `=B1` show.
+fn beside_a_loop(
+    rt: &impl Abort,
+    alloc: Global,
+    formula: Tree,
+) -> Result<(Shown, Shown), AllocError>
+    requires sound { IsSound (record { sheet = 0; row = 1; col = 1 }) (expr_of formula) }
+    requires text { (ts : Bytes) → IsFormulaOf ts (expr_of formula) }
+{
+    let texts = Texts::new(alloc);
+    let mut book = PlainBook::new(alloc);
+    put(rt, &mut book, &texts, place(1, 1), Cell::Formula(formula));
+    put_reference(rt, &mut book, &texts, place(1, 2), place(1, 2));
+    let shown = slow_shown(alloc, &book, &texts)?;
+    assert!(rt; shown.len() == 2);
+    let (first, second) = (shown[0], shown[1]);
+    Ok((first.1, second.1))
+}
+
+#[test]
+fn formulas_lead_into_a_loop_by_their_first_need(rt: HostRuntime) -> Result<(), Fail> {
+    let alloc = rt.alloc();
+    let zero_first = operation(
+        &rt,
+        alloc,
+        Op::Add,
+        operation(&rt, alloc, Op::Div, Tree::Number(1), Tree::Number(0)),
+        Tree::Ref(reference(1, 2)),
+    );
+    assert_eq!(rt;
+        beside_a_loop(&rt, alloc, zero_first)?,
+        (Shown::Val(Value::Error(Code::Div)), Shown::Cycle(1))
+    );
+    let loop_first = operation(
+        &rt,
+        alloc,
+        Op::Add,
+        Tree::Ref(reference(1, 2)),
+        operation(&rt, alloc, Op::Div, Tree::Number(1), Tree::Number(0)),
+    );
+    assert_eq!(rt;
+        beside_a_loop(&rt, alloc, loop_first)?,
+        (Shown::ToCycle, Shown::Cycle(1))
+    );
+    let unless = if_error(&rt, alloc, Tree::Ref(reference(1, 2)), Tree::Number(5));
+    assert_eq!(rt;
+        beside_a_loop(&rt, alloc, unless)?,
+        (Shown::ToCycle, Shown::Cycle(1))
+    );
     Ok(())
 }
 

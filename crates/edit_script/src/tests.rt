@@ -202,7 +202,7 @@ fn some_sheets(alloc: Global) -> Result<SheetNames, Fail> {
 fn reads_lines(rt: HostRuntime) -> Result<(), Fail> {
     let alloc = rt.alloc();
     let sheets = some_sheets(alloc)?;
-    let mut count = 0;
+    let mut count: usize = 0;
     for row in LINES.lines() {
         let Some((line, want)) = row.trim_start_matches(' ').rsplit_once("=>") else {
             continue;
@@ -211,7 +211,7 @@ fn reads_lines(rt: HostRuntime) -> Result<(), Fail> {
         let want = unspelled(alloc, want)?;
         let got = read_as(alloc, &sheets, line.as_bytes())?;
         assert_eq!(rt; got.as_str(), want.as_str(), "{row}");
-        count += 1;
+        count = count.saturating_add(1);
     }
     assert_eq!(rt; count, COUNT);
     for line in [b"\xFF".as_slice(), b"# \xFF", b"frob \xFF", b"recalc \xC3"] {

@@ -1,10 +1,11 @@
 -- A run accepts what is read, and nothing else.
-use Rattle.std.proofs.Common.{◌≡◌, ℕ, ◌+◌, ◌-◌, ◌≤◌, List, [], ◌∷◌, Bool, true, false, Ok, Err, zero, suc, nat_le, le-leb, refl, sym, ap, ◌∙◌, subst, arith, append-nil}
+use Rattle.std.proofs.Common.{◌≡◌, ℕ, ◌+◌, ◌-◌, ◌≤◌, List, [], ◌∷◌, Bool, true, false, Ok, Err, Option, Some, None, zero, suc, nat_le, le-leb, refl, sym, ap, ◌∙◌, subst, arith, append-nil}
 use Rattle.std.specs.List.{AllByRecursion}
 use Rattle.cell_values.specs.declared.address.Addr.{Addr}
 use Rattle.formula_trees.specs.Expr.{Expr}
 use Rattle.formula_tokens.specs.declared.token.Spot.{Spot}
 use Rattle.formula_tokens.specs.declared.token.Token.{Token}
+use Rattle.formula_grammar.specs.declared.faults.FaultKind.{FaultKind}
 use Rattle.formula_grammar.specs.Syntax.{Mark, Expression, spelling, marks, meaning, Fits}
 use Rattle.formula_grammar.specs.Fault.{own_fault, named_fault, Reads, total_nodes, tokens_of}
 use Rattle.formula_grammar.specs.Steps.{State, operator, finished, Move, move, mark_at, is_bad, checked, step, accepted, run_on, run, at_end}
@@ -12,10 +13,10 @@ use Rattle.formula_grammar.proofs.Walk.{stuck, at, opens, go_on, walk, prefixed,
 use Rattle.formula_grammar.proofs.Verdict.{start, listed, listed-prefixed, Passes, passes}
 
 abbrev AreKnown : List Token → Type 0
-AreKnown ts = AllByRecursion (λ t. own_fault t ≡ 0) ts
+AreKnown ts = AllByRecursion (λ t. own_fault t ≡ None) ts
 
 abbrev AreInside : List Token → Type 0
-AreInside ts = AllByRecursion (λ t. named_fault t ≡ 0) ts
+AreInside ts = AllByRecursion (λ t. named_fault t ≡ None) ts
 
 abbrev AreLow : List Mark → Type 0
 AreLow ms = AllByRecursion (λ m. m.level ≤ 32) ms
@@ -50,14 +51,14 @@ pub step_passes : (n : ℕ) (s : State) (t : Token) (s' : State) → Passes n s 
 step_passes n s t s' p =
     by_case (is_bad t) (own_fault t) (named_fault t) (nat_le (mark_at s t).level 32) (nat_le (mark_at s t).nodes (512 - n)) (nat_le (mark_at s t).cells 65536) (move true s t) p.known p.inside (le-leb _ _ p.low) (le-leb _ _ p.few) (le-leb _ _ p.small) p.moved
   where
-    by_case : (bad : Bool) (o l : ℕ) (low few small : Bool) (m : Move) → o ≡ 0 → l ≡ 0 → low ≡ true → few ≡ true → small ≡ true → m ≡ Ok s' → checked bad o l low few small m ≡ Ok s'
-    by_case bad zero zero true true true (Ok a) u i h f k e = e
-    by_case bad (suc o) l low few small m u i h f k e = absurd (omega (arith, u))
-    by_case bad zero (suc l) low few small m u i h f k e = absurd (omega (arith, i))
-    by_case bad zero zero false few small m u i h f k e = cc
-    by_case bad zero zero true false small m u i h f k e = cc
-    by_case bad zero zero true true false m u i h f k e = cc
-    by_case bad zero zero true true true (Err j) u i h f k e = cc
+    by_case : (bad : Bool) (o l : Option FaultKind) (low few small : Bool) (m : Move) → o ≡ None → l ≡ None → low ≡ true → few ≡ true → small ≡ true → m ≡ Ok s' → checked bad o l low few small m ≡ Ok s'
+    by_case bad None None true true true (Ok a) u i h f k e = e
+    by_case bad (Some o) l low few small m u i h f k e = cc
+    by_case bad None (Some l) low few small m u i h f k e = cc
+    by_case bad None None false few small m u i h f k e = cc
+    by_case bad None None true false small m u i h f k e = cc
+    by_case bad None None true true false m u i h f k e = cc
+    by_case bad None None true true true (Err j) u i h f k e = cc
 
 -- a walk within the limits to the end is accepted
 goes : (ts : List Spot) (end n : ℕ) (s : State) (ms : List Mark) → walk true (tokens_of ts) s ≡ prefixed ms (at (operator [])) → Keeps (tokens_of ts) n ms → run ts end n s ≡ accepted

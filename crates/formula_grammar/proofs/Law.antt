@@ -6,6 +6,7 @@ use Rattle.formula_trees.specs.declared.functions.Kind.{Kind}
 use Rattle.formula_trees.specs.declared.functions.Kind.TheVariants.{Plain, Place, Many, Exact}
 use Rattle.formula_tokens.specs.declared.token.Spot.{Spot}
 use Rattle.formula_tokens.specs.declared.token.Token.{Token}
+use Rattle.formula_grammar.specs.declared.faults.FaultKind.{FaultKind}
 use Rattle.formula_grammar.specs.Syntax.{spelling, meaning, kind_at}
 use Rattle.formula_grammar.specs.Fault.{Reads, FirstFault, tokens_of}
 use Rattle.formula_grammar.specs.Steps.{Frame, in_call, State, operand, operator, named, opened, argument, sheet, corner, colon, ended, finished, Move, move, mark_at, step, at_end, run_on, run, Outcome, accepted, fault, on_end, on_argument}
@@ -73,10 +74,10 @@ tokens_of-append [] b = refl
 tokens_of-append (x ∷ a) b = ap (λ y. x.token ∷ y) (tokens_of-append a b)
 
 -- tokens have a tree or a first fault
-pub tree_or_fault : (own : Addr) (ts : List Spot) (end : ℕ) → ((f : Expr) × Reads own (tokens_of ts) f) ⊎ ((place : ℕ) × (n : ℕ) × FirstFault ts end place n)
+pub tree_or_fault : (own : Addr) (ts : List Spot) (end : ℕ) → ((f : Expr) × Reads own (tokens_of ts) f) ⊎ ((place : ℕ) × (k : FaultKind) × FirstFault ts end place k)
 tree_or_fault own ts end = by_outcome (run ts end 0 start) refl
   where
-    by_outcome : (o : Outcome) → run ts end 0 start ≡ o → ((f : Expr) × Reads own (tokens_of ts) f) ⊎ ((place : ℕ) × (n : ℕ) × FirstFault ts end place n)
+    by_outcome : (o : Outcome) → run ts end 0 start ≡ o → ((f : Expr) × Reads own (tokens_of ts) f) ⊎ ((place : ℕ) × (k : FaultKind) × FirstFault ts end place k)
     by_outcome accepted e =
         let r = followed ts end 0 start e in
         let s : spelling r.0 ≡ tokens_of ts = sym (same_front (tokens_of ts) (spelling r.0) Token.End (r.3 ∙ ap (λ x. spelling r.0 ++ x) r.4)) in
@@ -84,7 +85,7 @@ tree_or_fault own ts end = by_outcome (run ts end 0 start) refl
     by_outcome (fault place n) e = inr (place, n, run_fault ts end place n e)
 
 -- and never both
-pub never_both : (own : Addr) (ts : List Spot) (end place n : ℕ) (f : Expr) → Reads own (tokens_of ts) f → FirstFault ts end place n → ⊥
+pub never_both : (own : Addr) (ts : List Spot) (end place : ℕ) (n : FaultKind) (f : Expr) → Reads own (tokens_of ts) f → FirstFault ts end place n → ⊥
 never_both own ts end place n f r h =
     run_faultless ts end (reads_accepted own ts end f r) (tokens_of h.before) h.token.token (tokens_of h.after)
     (sym (tokens_of-append ts (record { token = Token.End; place = end } ∷ [])) ∙ ap tokens_of h.text ∙ tokens_of-append h.before (h.token ∷ h.after)) n h.applies

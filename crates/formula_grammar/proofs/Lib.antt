@@ -9,7 +9,7 @@ pub mod Reading
 pub mod Whole
 pub mod Quotes
 pub mod Known
-pub mod Places
+pub mod TokenCounts
 pub mod Answered
 pub mod PrintedTokens
 pub mod PrintedWords

@@ -1,5 +1,5 @@
 -- Parts of a formula: a tree, its concrete syntax and its text together.
-use Rattle.std.proofs.Common.{◌≡◌, ℕ, suc, ◌+◌, ◌≤◌, true, false, List, [], ◌∷◌, ◌++◌, refl, ap, ap₂, sym, ◌∙◌, arith, Some}
+use Rattle.std.proofs.Common.{◌≡◌, ℕ, suc, ◌+◌, ◌≤◌, true, false, List, [], ◌∷◌, ◌++◌, refl, ap, ap₂, sym, ◌∙◌, arith, Some, None}
 use Rattle.std.specs.Prelude.{max, codes}
 use Rattle.std.specs.List.{AllByRecursion}
 use Rattle.std.proofs.lemmas.List.{append_assoc, append-nil}
@@ -24,8 +24,8 @@ pub record Part (names : List (List ℕ)) (ts : Texts) (T : Type 0) (tree : T) (
   pub means : meant ≡ tree
   pub reads : (rest : List ℕ) → closes rest ≡ true → tokens_in names ts 0 false (text ++ rest) ≡ spelled ++ tokens_in names ts 0 false rest
   pub begins : opens text ≡ true
-  pub known : AllByRecursion (λ t. own_fault t ≡ 0) spelled
-  pub inside : AllByRecursion (λ t. named_fault t ≡ 0) spelled
+  pub known : AllByRecursion (λ t. own_fault t ≡ None) spelled
+  pub inside : AllByRecursion (λ t. named_fault t ≡ None) spelled
   pub total : (d : ℕ) → total_nodes (marks d) ≡ count
   pub low : (d : ℕ) → d + inner ≤ 32 → AllByRecursion (λ m. m.level ≤ 32) (marks d)
   pub small : (d : ℕ) → AllByRecursion (λ m. m.cells ≤ 65536) (marks d)
@@ -83,7 +83,7 @@ module _ (names : List (List ℕ)) (ts : Texts) where
   after rest = tokens_in names ts 0 false rest
 
   -- one token that is a node
-  pub one : (e : Expr) (text : List ℕ) (F : Type 0) (t : Token) (x : Expr) → F → x ≡ e → ((rest : List ℕ) → closes rest ≡ true → tokens_in names ts 0 false (text ++ rest) ≡ t ∷ tokens_in names ts 0 false rest) → opens text ≡ true → own_fault t ≡ 0 → named_fault t ≡ 0
+  pub one : (e : Expr) (text : List ℕ) (F : Type 0) (t : Token) (x : Expr) → F → x ≡ e → ((rest : List ℕ) → closes rest ≡ true → tokens_in names ts 0 false (text ++ rest) ≡ t ∷ tokens_in names ts 0 false rest) → opens text ≡ true → own_fault t ≡ None → named_fault t ≡ None
       → Part names ts Expr e 1 0 text F (t ∷ []) (λ d. node ∷ []) x
   one e text F t x f m r o k i = record {
     allowed = f;

@@ -19,6 +19,7 @@ use Rattle.formula_tokens.specs.declared.token.Token.{Token}
 use Rattle.formula_tokens.specs.declared.token.Word.{Word}
 use Rattle.formula_grammar.specs.Printed.{cell_or_error, prefix_of}
 use Rattle.formula_grammar.specs.Syntax.{Target, here, on_sheet, target_spelling, target_marks, target_word, target_sheet, target_meaning, reference_at, cells_between, quiet, sized}
+use Rattle.formula_grammar.specs.declared.faults.FaultKind.{FaultKind}
 use Rattle.formula_grammar.specs.Fault.{is_inside, corner_fault, own_fault, named_fault, total_nodes}
 use Rattle.formula_grammar.proofs.PrintedTokens.{tokens_in}
 use Rattle.formula_grammar.proofs.PrintedWords.{closes, opens}
@@ -53,8 +54,8 @@ inside_sheet at r a h =
     let row_from = h.row_from in let row_to = h.row_to in let col_from = h.col_from in let col_to = h.col_to in
     grind (arith, nat_tests)
 
-corner_known : (at : Addr) (r : Reference) (a : Addr) → Resolved at r a → corner_fault (word_of r a) ≡ 0
-corner_known at r a h = cond-true (is_inside (corner r a)) 0 10 (inside_sheet at r a h)
+corner_known : (at : Addr) (r : Reference) (a : Addr) → Resolved at r a → corner_fault (word_of r a) ≡ None
+corner_known at r a h = cond-true (is_inside (corner r a)) None (Some FaultKind.OutsideSheet) (inside_sheet at r a h)
 
 target_total : (o : Option ℕ) (w : Word) → total_nodes (target_marks (target_of o w)) ≡ 1
 target_total None w = refl
@@ -68,11 +69,11 @@ target_small : (o : Option ℕ) (w : Word) → AllByRecursion (λ m. m.cells ≤
 target_small None w = (omega arith, tt)
 target_small (Some s) w = (omega arith, (omega arith, tt))
 
-target_known : (o : Option ℕ) (c : Corner) → AllByRecursion (λ t. own_fault t ≡ 0) (target_spelling (target_of o (Word.Cell c)))
+target_known : (o : Option ℕ) (c : Corner) → AllByRecursion (λ t. own_fault t ≡ None) (target_spelling (target_of o (Word.Cell c)))
 target_known None c = (refl, tt)
 target_known (Some s) c = (refl, (refl, tt))
 
-target_inside : (at : Addr) (r : Reference) (a : Addr) (o : Option ℕ) → Resolved at r a → AllByRecursion (λ t. named_fault t ≡ 0) (target_spelling (target_of o (word_of r a)))
+target_inside : (at : Addr) (r : Reference) (a : Addr) (o : Option ℕ) → Resolved at r a → AllByRecursion (λ t. named_fault t ≡ None) (target_spelling (target_of o (word_of r a)))
 target_inside at r a None h = (corner_known at r a h, tt)
 target_inside at r a (Some s) h = (refl, (corner_known at r a h, tt))
 

@@ -1,5 +1,5 @@
 -- What is printed of a sound formula is read as the same tree.
-use Rattle.std.proofs.Common.{◌≡◌, ℕ, suc, ◌<◌, true, false, not, List, [], ◌∷◌, length, refl, ap, sym, subst, ◌∙◌, arith, Some}
+use Rattle.std.proofs.Common.{◌≡◌, ℕ, suc, ◌<◌, true, false, not, List, [], ◌∷◌, length, refl, ap, sym, subst, ◌∙◌, arith, Some, None}
 use Rattle.std.specs.Prelude.{ℤ, pos, IsTrue}
 use Rattle.std.specs.List.{AllByRecursion}
 use Rattle.std.proofs.lemmas.List.{append-nil}
@@ -126,8 +126,8 @@ printed_reads_back names ts at e good distinct on sound texts sheets short =
         expression = v.expression;
         fits = v.whole.allowed;
         spelled = spelled;
-        known = subst (λ (us : List Token). AllByRecursion (λ t. own_fault t ≡ 0) us) spelled v.whole.known;
-        inside = subst (λ (us : List Token). AllByRecursion (λ t. named_fault t ≡ 0) us) spelled v.whole.inside;
+        known = subst (λ (us : List Token). AllByRecursion (λ t. own_fault t ≡ None) us) spelled v.whole.known;
+        inside = subst (λ (us : List Token). AllByRecursion (λ t. named_fault t ≡ None) us) spelled v.whole.inside;
         low = v.whole.low 0 (omega (arith, sound.flat));
         few = let n = v.whole.total 0 in let most = sound.small in omega arith;
         small = v.whole.small 0;

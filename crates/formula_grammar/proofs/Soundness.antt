@@ -21,6 +21,7 @@ use Rattle.formula_tokens.specs.declared.token.Literal.{Literal}
 use Rattle.formula_tokens.specs.declared.token.Token.{Token}
 use Rattle.formula_tokens.specs.declared.token.Word.{Word}
 use Rattle.formula_grammar.specs.Syntax.{Mark, quiet, node, is_exact, is_ref_error, part, cells_between, Target, here, on_sheet, target_sheet, Expression, only_sum, compare, Sums, only_term, add, Term, only_signed, multiply, Signed, plain, signed, Primary, literal, reference, group, call_none, call, Arguments, last, more, Argument, value, cell, area, lone, sign_op, target_spelling, spelling, sums_spelling, term_spelling, signed_spelling, primary_spelling, arguments_spelling, argument_spelling, target_marks, marks, sums_marks, term_marks, signed_marks, primary_marks, arguments_marks, argument_marks, IsOfKind, Fits, SumsFit, TermFits, SignedFits, PrimaryFits, ArgumentsFit, ArgumentFits, literal_meaning, reference_at, target_meaning, meaning, sums_meaning, term_meaning, signed_meaning, primary_meaning, arguments_meaning, argument_meaning}
+use Rattle.formula_grammar.specs.declared.faults.FaultKind.{FaultKind}
 use Rattle.formula_grammar.specs.Fault.{own_fault, named_fault, literal_fault, word_fault, corner_fault, is_inside, total_nodes, Reads}
 use Rattle.formula_grammar.proofs.Verdict.{total-append}
 
@@ -30,23 +31,23 @@ split_all P (x ∷ a) b h = let r = split_all P a b h.1 in ((h.0, r.0), r.1)
 
 -- tokens without a fault of their own, and marks within the limits
 record Fine (ts : List Token) (ms : List Mark) : Type 0 where
-  known : AllByRecursion (λ t. own_fault t ≡ 0) ts
-  inside : AllByRecursion (λ t. named_fault t ≡ 0) ts
+  known : AllByRecursion (λ t. own_fault t ≡ None) ts
+  inside : AllByRecursion (λ t. named_fault t ≡ None) ts
   low : AllByRecursion (λ m. m.level ≤ 32) ms
   small : AllByRecursion (λ m. m.cells ≤ 65536) ms
 
 fine_front : (a b : List Token) (m n : List Mark) → Fine (a ++ b) (m ++ n) → Fine a m
 fine_front a b m n f = record {
-  known = (split_all (λ t. own_fault t ≡ 0) a b f.known).0;
-  inside = (split_all (λ t. named_fault t ≡ 0) a b f.inside).0;
+  known = (split_all (λ t. own_fault t ≡ None) a b f.known).0;
+  inside = (split_all (λ t. named_fault t ≡ None) a b f.inside).0;
   low = (split_all (λ m. m.level ≤ 32) m n f.low).0;
   small = (split_all (λ m. m.cells ≤ 65536) m n f.small).0;
 }
 
 fine_back : (a b : List Token) (m n : List Mark) → Fine (a ++ b) (m ++ n) → Fine b n
 fine_back a b m n f = record {
-  known = (split_all (λ t. own_fault t ≡ 0) a b f.known).1;
-  inside = (split_all (λ t. named_fault t ≡ 0) a b f.inside).1;
+  known = (split_all (λ t. own_fault t ≡ None) a b f.known).1;
+  inside = (split_all (λ t. named_fault t ≡ None) a b f.inside).1;
   low = (split_all (λ m. m.level ≤ 32) m n f.low).1;
   small = (split_all (λ m. m.cells ≤ 65536) m n f.small).1;
 }
@@ -91,13 +92,12 @@ good_operator own k op x y d ms ns e a b =
     subst (λ j. Good own j (Binary op x y) d (ms ++ node ∷ ns)) e (good_binary own op x y d ms ns (subst (λ j. Good own j x d ms) (sym e) a) (subst (λ j. Good own (suc j) y d ns) (sym e) b))
 
 -- words and corners
-by_inside : (b : Bool) → ◌≡◌ {A = ℕ} (cond b 0 10) 0 → b ≡ true
-by_inside true e = refl
-by_inside false e = absurd (omega (arith, e))
+by_none : (b : Bool) (k : FaultKind) → cond b None (Some k) ≡ None → b ≡ true
+by_none true k e = refl
+by_none false k e = cc
 
-by_number : (b : Bool) → ◌≡◌ {A = ℕ} (cond b 0 4) 0 → IsTrue b
-by_number true e = refl
-by_number false e = absurd (omega (arith, e))
+not_unknown : own_fault (Token.Function None) ≡ None → ⊥
+not_unknown e = cc
 
 both_true : (a b : Bool) → (a && b) ≡ true → (a ≡ true) × (b ≡ true)
 both_true true true e = (refl, refl)
@@ -126,25 +126,25 @@ corner_resolves own s c e =
     let row = ap (up_to 65536) (part_number own.row c.row.absolute c.row.number) ∙ up_to_number 65536 c.row.number p.1 in
     ap (λ r. cell_at (unwrap_or s own.sheet) r (up_to 256 (part_at own.col (part own.col c.col)))) row ∙ ap (cell_at (unwrap_or s own.sheet) (Some c.row.number)) col
 
-resolves : (own : Addr) (s : Option ℕ) (w : Word) → word_fault w ≡ 0 → corner_fault w ≡ 0 → IsSome (resolve own (reference_at own s w))
-resolves own s (Word.Cell c) k i = subst IsSome (sym (corner_resolves own s c (by_inside (is_inside c) i))) refl
-resolves own s Word.Unknown k i = absurd (omega (arith, k))
+resolves : (own : Addr) (s : Option ℕ) (w : Word) → word_fault w ≡ None → corner_fault w ≡ None → IsSome (resolve own (reference_at own s w))
+resolves own s (Word.Cell c) k i = subst IsSome (sym (corner_resolves own s c (by_none (is_inside c) FaultKind.OutsideSheet i))) refl
+resolves own s Word.Unknown k i = cc
 
-range_small : (own : Addr) (s : Option ℕ) (v w : Word) → word_fault v ≡ 0 → corner_fault v ≡ 0 → word_fault w ≡ 0 → corner_fault w ≡ 0 → cells_between v w ≤ 65536 → IsRange own (reference_at own s v) (reference_at own s w)
+range_small : (own : Addr) (s : Option ℕ) (v w : Word) → word_fault v ≡ None → corner_fault v ≡ None → word_fault w ≡ None → corner_fault w ≡ None → cells_between v w ≤ 65536 → IsRange own (reference_at own s v) (reference_at own s w)
 unfolding height width
 range_small own s (Word.Cell c) (Word.Cell d) k i l j h =
-    let a = corner_resolves own s c (by_inside (is_inside c) i) in
-    let b = corner_resolves own s d (by_inside (is_inside d) j) in
+    let a = corner_resolves own s c (by_none (is_inside c) FaultKind.OutsideSheet i) in
+    let b = corner_resolves own s d (by_none (is_inside d) FaultKind.OutsideSheet j) in
     let e : area_of own (reference_at own s (Word.Cell c)) (reference_at own s (Word.Cell d)) ≡ Some (between_cells (cell_named own s c) (cell_named own s d)) =
     ap (λ x. area_between x (resolve own (reference_at own s (Word.Cell d)))) a ∙ ap (area_between (Some (cell_named own s c))) b in
     record { one_sheet = refl; small = subst (λ o. IsSomeAnd o (λ r. height r * width r ≤ 65536)) (sym e) h }
-range_small own s (Word.Cell c) Word.Unknown k i l j h = absurd (omega (arith, l))
-range_small own s Word.Unknown w k i l j h = absurd (omega (arith, k))
+range_small own s (Word.Cell c) Word.Unknown k i l j h = cc
+range_small own s Word.Unknown w k i l j h = cc
 
 -- literals
-good_literal : (own : Addr) (l : Literal) (d : ℕ) → literal_fault l ≡ 0 → d ≤ 32 → Good own 5 (literal_meaning l) d (node ∷ [])
-good_literal own (Literal.Number n) d k h = record { shape = by_number (int_le (pos 0) n && fits n) k; counts = refl; flat = omega (arith, h) }
-good_literal own Literal.HugeNumber d k h = absurd (omega (arith, k))
+good_literal : (own : Addr) (l : Literal) (d : ℕ) → literal_fault l ≡ None → d ≤ 32 → Good own 5 (literal_meaning l) d (node ∷ [])
+good_literal own (Literal.Number n) d k h = record { shape = by_none (int_le (pos 0) n && fits n) FaultKind.HugeNumber k; counts = refl; flat = omega (arith, h) }
+good_literal own Literal.HugeNumber d k h = cc
 good_literal own (Literal.Text t) d k h = record { shape = tt; counts = refl; flat = omega (arith, h) }
 good_literal own (Literal.Truth b) d k h = record { shape = tt; counts = refl; flat = omega (arith, h) }
 good_literal own Literal.RefError d k h = record { shape = tt; counts = refl; flat = omega (arith, h) }
@@ -204,7 +204,7 @@ good_value own x d ms g = let i = at_least_inner 1 x (levels x) in let f = g.fla
 good_many : (own : Addr) (x : Expr) (d : ℕ) (ms : List Mark) → Good own 1 x d ms → GoodArgument own Many x d ms
 good_many own x d ms g = let i = at_least_inner 1 x (levels x) in let f = g.flat in record { shape = range_or own x g.shape; counts = g.counts; flat = omega (arith, i, f) }
 
-good_lone : (own : Addr) (k : Kind) (l : Literal) (d : ℕ) → OfKind own k (literal_meaning l) (IsExpression own (literal_meaning l)) → literal_fault l ≡ 0 → d ≤ 32 → GoodArgument own k (literal_meaning l) d (node ∷ [])
+good_lone : (own : Addr) (k : Kind) (l : Literal) (d : ℕ) → OfKind own k (literal_meaning l) (IsExpression own (literal_meaning l)) → literal_fault l ≡ None → d ≤ 32 → GoodArgument own k (literal_meaning l) d (node ∷ [])
 good_lone own k l d s z h =
     let g = good_literal own l d z h in
     let i = at_least_inner 5 (literal_meaning l) (levels (literal_meaning l)) in
@@ -270,13 +270,13 @@ module _ (own : Addr) where
         good_group own (meaning own e) d (marks e (suc d)) _ refl
         (good-expression e (suc d) fit f.low.0 (fine_front (spelling e) (Token.RightParen ∷ []) (marks e (suc d)) (quiet ∷ []) (fine_tail Token.LeftParen (spelling e ++ Token.RightParen ∷ []) _ (marks e (suc d) ++ quiet ∷ []) f)))
     good-primary (call_none (Some g)) d fit h f = let low : suc d ≤ 32 = f.low.1.0 in record { shape = fit; counts = refl; flat = omega (arith, low) }
-    good-primary (call_none None) d fit h f = absurd (omega (arith, f.known.0))
+    good-primary (call_none None) d fit h f = absurd (not_unknown f.known.0)
     good-primary (call (Some g) xs) d fit h f =
         good_call own g (arguments_meaning own xs) d (arguments_marks xs (suc d)) _ refl
         (good-arguments xs g 0 (suc d) (first_argument g) fit f.low.1.0
         (fine_front (arguments_spelling xs) (Token.RightParen ∷ []) (arguments_marks xs (suc d)) (quiet ∷ [])
         (fine_tail Token.LeftParen (arguments_spelling xs ++ Token.RightParen ∷ []) _ (arguments_marks xs (suc d) ++ quiet ∷ []) (fine_tail (Token.Function (Some g)) (Token.LeftParen ∷ (arguments_spelling xs ++ Token.RightParen ∷ [])) node _ f))))
-    good-primary (call None xs) d fit h f = absurd (omega (arith, f.known.0))
+    good-primary (call None xs) d fit h f = absurd (not_unknown f.known.0)
 
     good-arguments : (xs : Arguments) (g : Fun) (n d : ℕ) → IsTrue (takes_more g n) → ArgumentsFit true (Some g) n xs → d ≤ 32 → Fine (arguments_spelling xs) (arguments_marks xs d) → GoodArguments own g n (arguments_meaning own xs) d (arguments_marks xs d)
     good-arguments (last x) g n d t fit h f =
@@ -320,8 +320,8 @@ module _ (own : Addr) where
   reads_sound ts x r =
       let e = r.expression in
       let fine : Fine (spelling e) (marks e 0) = record {
-        known = subst (AllByRecursion (λ t. own_fault t ≡ 0)) (sym r.spelled) r.known;
-        inside = subst (AllByRecursion (λ t. named_fault t ≡ 0)) (sym r.spelled) r.inside;
+        known = subst (AllByRecursion (λ t. own_fault t ≡ None)) (sym r.spelled) r.known;
+        inside = subst (AllByRecursion (λ t. named_fault t ≡ None)) (sym r.spelled) r.inside;
         low = r.low;
         small = r.small;
       } in

@@ -11,7 +11,9 @@ use Rattle.formula_tokens.specs.declared.token.Literal.{Literal}
 use Rattle.formula_tokens.specs.declared.token.Spot.{Spot}
 use Rattle.formula_tokens.specs.declared.token.Token.{Token}
 use Rattle.formula_tokens.specs.declared.token.Word.{Word}
+use Rattle.formula_grammar.specs.declared.faults.FaultKind.{FaultKind}
 use Rattle.formula_grammar.specs.Syntax.{Mark, quiet, spelling, marks, kind_at, are_enough, may_go_on, is_ref_error, is_exact}
+use Rattle.formula_grammar.specs.FaultKinds.{number_of}
 use Rattle.formula_grammar.specs.Fault.{own_fault, named_fault, literal_fault, word_fault, function_fault, corner_fault, prefix_fault, is_inside, Stands, Applies, IsFaultless, FirstFault, formula_marks, mark_of, marks_to, total_nodes, tokens_of}
 use Rattle.formula_grammar.specs.Steps.{Frame, in_group, in_call, State, operand, operator, named, opened, argument, sheet, corner, colon, ended, finished, Move, if_counted, on_lone, on_sign, sign_of, on_operand, on_right, on_comma, on_end, on_close, on_operator, on_argument, on_sheet_word, on_no_range, on_corner, on_named, on_opened, on_colon, move, mark_at, is_bad, checked, step, Outcome, accepted, fault, run_on, run, at_end}
 use Rattle.formula_grammar.proofs.Walk.{Walk, stuck, at, opens, go_on, walk, prefixed, prefixed-append, walk-expression}
@@ -20,8 +22,8 @@ use Rattle.formula_grammar.proofs.Follows.{Follows, FollowsMove, back, some_foll
 -- what a strict move and a move without counts have to do with each other
 abbrev Judged : Move → Move → Type 0
 Judged (Ok a) (Ok b) = a ≡ b
-Judged (Err n) (Err m) = n ≡ 2
-Judged (Err n) (Ok b) = n ≡ 5
+Judged (Err n) (Err m) = n ≡ FaultKind.Misplaced
+Judged (Err n) (Ok b) = n ≡ FaultKind.ArgumentCount
 Judged (Ok a) (Err m) = ⊥
 
 judged_count : (b : Bool) (s : State) → Judged (if_counted true b s) (if_counted false b s)
@@ -165,7 +167,7 @@ walked strict ts h =
     ap (λ x. walk strict x start) (sym h.spelled) ∙ walk-expression strict h.expression [] 0 (Token.End ∷ []) refl h.fits
     ∙ sym (prefixed-append (marks h.expression 0) (quiet ∷ []) (at finished))
 
-stands_not : (strict : Bool) (ts : List Token) (ns : List Mark) (s : State) (t : Token) (n : ℕ) → Leads strict ts start ns s → move strict s t ≡ Err n → Stands strict (ts ++ t ∷ []) → ⊥
+stands_not : (strict : Bool) (ts : List Token) (ns : List Mark) (s : State) (t : Token) (n : FaultKind) → Leads strict ts start ns s → move strict s t ≡ Err n → Stands strict (ts ++ t ∷ []) → ⊥
 stands_not strict ts ns s t n l m h =
     let a = walked strict (ts ++ t ∷ []) h in
     let b = ap (λ x. walk strict x start) (append_assoc ts (t ∷ []) h.rest) ∙ l.walks (t ∷ h.rest) ∙ ap (λ x. prefixed ns (opens (mark_at s t) (go_on (walk strict h.rest) x))) m in
@@ -218,7 +220,7 @@ split_snoc (x ∷ before) (y ∷ b) t u c e =
     let rest : before ++ t ∷ [] ≡ b ++ u ∷ c = cc in
     ⊎_elim (λ h. inl (ap₂ (λ z zs. z ∷ zs) same h.0, h.1)) (λ h. inr (h.0, ap₂ (λ z zs. z ∷ zs) same h.1)) (split_snoc before b t u c rest)
 
-faultless_more : (before : List Token) (t : Token) → IsFaultless before → ((n : ℕ) → Applies before t n → ⊥) → IsFaultless (before ++ t ∷ [])
+faultless_more : (before : List Token) (t : Token) → IsFaultless before → ((n : FaultKind) → Applies before t n → ⊥) → IsFaultless (before ++ t ∷ [])
 faultless_more before t none here b u c e n applies =
     ⊎_elim
     (λ h. here n (subst (λ x. Applies x t n) (sym h.0) (subst (λ x. Applies b x n) (sym h.1) applies)))
@@ -229,101 +231,116 @@ faultless_none : IsFaultless []
 faultless_none [] t after e n applies = cc
 faultless_none (x ∷ before) t after e n applies = cc
 
--- the numbers of the faults that tokens have of themselves
-pub record OwnNumber (n : ℕ) : Type 0 where
-  pub few : n ≤ 4
-  pub not_2 : n ≢ 2
+-- the faults that tokens have of themselves come early, and those of what they name last
+abbrev IsOwn : FaultKind → Type 0
+IsOwn FaultKind.BadCharacter = Unit {0}
+IsOwn FaultKind.UnknownName = Unit {0}
+IsOwn FaultKind.HugeNumber = Unit {0}
+IsOwn k = ⊥
 
-own_zero : OwnNumber 0
-own_zero = record { few = omega arith; not_2 = λ e. omega (arith, e) }
+abbrev IsNamed : FaultKind → Type 0
+IsNamed FaultKind.UnknownSheet = Unit {0}
+IsNamed FaultKind.OutsideSheet = Unit {0}
+IsNamed k = ⊥
 
-own_three : OwnNumber 3
-own_three = record { few = omega arith; not_2 = λ e. omega (arith, e) }
+abbrev IsEach : (FaultKind → Type 0) → Option FaultKind → Type 0
+IsEach P (Some k) = P k
+IsEach P None = Unit {0}
 
-own_four : OwnNumber 4
-own_four = record { few = omega arith; not_2 = λ e. omega (arith, e) }
+each : (P : FaultKind → Type 0) (o : Option FaultKind) (k : FaultKind) → IsEach P o → o ≡ Some k → P k
+each P o k h e = subst (IsEach P) e h
 
-own_by : (b : Bool) → OwnNumber (cond b 0 4)
-own_by true = own_zero
-own_by false = own_four
+chosen : (P : FaultKind → Type 0) (k : FaultKind) (b : Bool) → P k → IsEach P (cond b None (Some k))
+chosen P k true h = tt
+chosen P k false h = h
 
-own_literal : (l : Literal) → OwnNumber (literal_fault l)
-own_literal (Literal.Number n) = own_by (int_le (pos 0) n && fits n)
-own_literal Literal.HugeNumber = own_four
-own_literal l = own_zero
+own_literal : (l : Literal) → IsEach IsOwn (literal_fault l)
+own_literal (Literal.Number n) = chosen IsOwn FaultKind.HugeNumber (int_le (pos 0) n && fits n) tt
+own_literal Literal.HugeNumber = tt
+own_literal l = tt
 
-own_word : (w : Word) → OwnNumber (word_fault w)
-own_word (Word.Cell c) = own_zero
-own_word Word.Unknown = own_three
+own_word : (w : Word) → IsEach IsOwn (word_fault w)
+own_word (Word.Cell c) = tt
+own_word Word.Unknown = tt
 
-own_function : (f : Option Fun) → OwnNumber (function_fault f)
-own_function (Some f) = own_zero
-own_function None = own_three
+own_function : (f : Option Fun) → IsEach IsOwn (function_fault f)
+own_function (Some f) = tt
+own_function None = tt
 
-pub own_number : (t : Token) → OwnNumber (own_fault t)
-own_number Token.BadCharacter = record { few = omega arith; not_2 = λ e. omega (arith, e) }
-own_number (Token.Reference w) = own_word w
-own_number (Token.SheetReference w) = own_word w
-own_number (Token.Function f) = own_function f
-own_number (Token.Literal l) = own_literal l
-own_number t = own_zero
+own_token : (t : Token) → IsEach IsOwn (own_fault t)
+own_token Token.BadCharacter = tt
+own_token (Token.Reference w) = own_word w
+own_token (Token.SheetReference w) = own_word w
+own_token (Token.Function f) = own_function f
+own_token (Token.Literal l) = own_literal l
+own_token t = tt
 
-by_literal : (b : Bool) → ◌≢◌ {A = ℕ} (cond b 0 4) 1
-by_literal true e = omega (arith, e)
-by_literal false e = omega (arith, e)
+own_few : (k : FaultKind) → IsOwn k → number_of k ≤ 4
+own_few FaultKind.BadCharacter h = omega arith
+own_few FaultKind.UnknownName h = omega arith
+own_few FaultKind.HugeNumber h = omega arith
+own_few k h = absurd h
 
-literal_not_1 : (l : Literal) → literal_fault l ≢ 1
-literal_not_1 (Literal.Number n) e = by_literal (int_le (pos 0) n && fits n) e
-literal_not_1 Literal.HugeNumber e = omega (arith, e)
-literal_not_1 l e = omega (arith, e)
+own_from_1 : (t : Token) (k : FaultKind) → own_fault t ≡ Some k → number_of k ≤ 4
+own_from_1 t k e = own_few k (each IsOwn (own_fault t) k (own_token t) e)
 
-word_not_1 : (w : Word) → word_fault w ≢ 1
-word_not_1 (Word.Cell c) e = omega (arith, e)
-word_not_1 Word.Unknown e = omega (arith, e)
+literal_good : (l : Literal) → own_fault (Token.Literal l) ≡ Some FaultKind.BadCharacter → ⊥
+literal_good (Literal.Number n) e = by_range (int_le (pos 0) n && fits n) e
+  where
+    by_range : (b : Bool) → cond b None (Some FaultKind.HugeNumber) ≡ Some FaultKind.BadCharacter → ⊥
+    by_range true e = cc
+    by_range false e = cc
+literal_good Literal.HugeNumber e = cc
+literal_good l e = cc
 
-function_not_1 : (f : Option Fun) → function_fault f ≢ 1
-function_not_1 (Some f) e = omega (arith, e)
-function_not_1 None e = omega (arith, e)
+word_good : (w : Word) → word_fault w ≡ Some FaultKind.BadCharacter → ⊥
+word_good (Word.Cell c) e = cc
+word_good Word.Unknown e = cc
 
--- a token that is no bad character has no fault 1
-not_bad : (t : Token) → is_bad t ≡ false → own_fault t ≢ 1
+function_good : (f : Option Fun) → function_fault f ≡ Some FaultKind.BadCharacter → ⊥
+function_good (Some f) e = cc
+function_good None e = cc
+
+-- a token that is no bad character does not have that fault
+not_bad : (t : Token) → is_bad t ≡ false → own_fault t ≡ Some FaultKind.BadCharacter → ⊥
 not_bad Token.BadCharacter b e = cc
-not_bad (Token.Reference w) b e = word_not_1 w e
-not_bad (Token.SheetReference w) b e = word_not_1 w e
-not_bad (Token.Function f) b e = function_not_1 f e
-not_bad (Token.Literal l) b e = literal_not_1 l e
-not_bad t b e = omega (arith, e)
+not_bad (Token.Reference w) b e = word_good w e
+not_bad (Token.SheetReference w) b e = word_good w e
+not_bad (Token.Function f) b e = function_good f e
+not_bad (Token.Literal l) b e = literal_good l e
+not_bad t b e = cc
 
-bad_is : (t : Token) → is_bad t ≡ true → own_fault t ≡ 1
+bad_is : (t : Token) → is_bad t ≡ true → own_fault t ≡ Some FaultKind.BadCharacter
 bad_is Token.BadCharacter b = refl
 bad_is t b = cc
 
-named_by : (b : Bool) → (◌≡◌ {A = ℕ} (cond b 0 10) 0) ⊎ (9 ≤ cond b 0 10)
-named_by true = inl refl
-named_by false = inr (omega arith)
+named_corner : (w : Word) → IsEach IsNamed (corner_fault w)
+named_corner (Word.Cell c) = chosen IsNamed FaultKind.OutsideSheet (is_inside c) tt
+named_corner Word.Unknown = tt
 
-named_corner : (w : Word) → (corner_fault w ≡ 0) ⊎ (9 ≤ corner_fault w)
-named_corner (Word.Cell c) = named_by (is_inside c)
-named_corner Word.Unknown = inl refl
+named_prefix : (s : Option ℕ) → IsEach IsNamed (prefix_fault s)
+named_prefix (Some s) = tt
+named_prefix None = tt
 
-named_prefix : (s : Option ℕ) → (prefix_fault s ≡ 0) ⊎ (9 ≤ prefix_fault s)
-named_prefix (Some s) = inl refl
-named_prefix None = inr (omega arith)
+named_token : (t : Token) → IsEach IsNamed (named_fault t)
+named_token (Token.Prefix s) = named_prefix s
+named_token (Token.Reference w) = named_corner w
+named_token (Token.SheetReference w) = named_corner w
+named_token t = tt
 
-named_cases : (t : Token) → (named_fault t ≡ 0) ⊎ (9 ≤ named_fault t)
-named_cases (Token.Prefix s) = named_prefix s
-named_cases (Token.Reference w) = named_corner w
-named_cases (Token.SheetReference w) = named_corner w
-named_cases t = inl refl
+named_late : (k : FaultKind) → IsNamed k → 9 ≤ number_of k
+named_late FaultKind.UnknownSheet h = omega arith
+named_late FaultKind.OutsideSheet h = omega arith
+named_late k h = absurd h
 
-named_from_9 : (t : Token) (m : ℕ) → 0 < m → named_fault t ≡ m → 9 ≤ m
-named_from_9 t m h e = ⊎_elim (λ z. absurd (omega (arith, h, e, z))) (λ n. omega (arith, e, n)) (named_cases t)
+named_from_9 : (t : Token) (k : FaultKind) → named_fault t ≡ Some k → 9 ≤ number_of k
+named_from_9 t k e = named_late k (each IsNamed (named_fault t) k (named_token t) e)
 
 -- what a step says of its token
 pub record Passes (n : ℕ) (s : State) (t : Token) (s' : State) : Type 0 where
   pub moved : move true s t ≡ Ok s'
-  pub known : own_fault t ≡ 0
-  pub inside : named_fault t ≡ 0
+  pub known : own_fault t ≡ None
+  pub inside : named_fault t ≡ None
   pub low : (mark_at s t).level ≤ 32
   pub few : (mark_at s t).nodes ≤ 512 - n
   pub small : (mark_at s t).cells ≤ 65536
@@ -331,13 +348,13 @@ pub record Passes (n : ℕ) (s : State) (t : Token) (s' : State) : Type 0 where
 pub passes : (n : ℕ) (s : State) (t : Token) (s' : State) → step n s t ≡ Ok s' → Passes n s t s'
 passes n s t s' = by_case (is_bad t) (own_fault t) (named_fault t) (nat_le (mark_at s t).level 32) (nat_le (mark_at s t).nodes (512 - n)) (nat_le (mark_at s t).cells 65536) (move true s t) refl refl refl refl refl refl refl
   where
-    by_case : (bad : Bool) (o l : ℕ) (low few small : Bool) (m : Move) → is_bad t ≡ bad → own_fault t ≡ o → named_fault t ≡ l → nat_le (mark_at s t).level 32 ≡ low → nat_le (mark_at s t).nodes (512 - n) ≡ few → nat_le (mark_at s t).cells 65536 ≡ small → move true s t ≡ m → checked bad o l low few small m ≡ Ok s' → Passes n s t s'
-    by_case bad zero zero true true true (Ok a) qb qo ql h f c m e = record { moved = m ∙ e; known = qo; inside = ql; low = leb-true _ _ h; few = leb-true _ _ f; small = leb-true _ _ c }
-    by_case bad (suc o) l low few small (Ok a) qb qo ql h f c m e = cc
-    by_case bad zero l false few small (Ok a) qb qo ql h f c m e = cc
-    by_case bad zero l true false small (Ok a) qb qo ql h f c m e = cc
-    by_case bad zero l true true false (Ok a) qb qo ql h f c m e = cc
-    by_case bad zero (suc l) true true true (Ok a) qb qo ql h f c m e = cc
+    by_case : (bad : Bool) (o l : Option FaultKind) (low few small : Bool) (m : Move) → is_bad t ≡ bad → own_fault t ≡ o → named_fault t ≡ l → nat_le (mark_at s t).level 32 ≡ low → nat_le (mark_at s t).nodes (512 - n) ≡ few → nat_le (mark_at s t).cells 65536 ≡ small → move true s t ≡ m → checked bad o l low few small m ≡ Ok s' → Passes n s t s'
+    by_case bad None None true true true (Ok a) qb qo ql h f c m e = record { moved = m ∙ e; known = qo; inside = ql; low = leb-true _ _ h; few = leb-true _ _ f; small = leb-true _ _ c }
+    by_case bad (Some o) l low few small (Ok a) qb qo ql h f c m e = cc
+    by_case bad None l false few small (Ok a) qb qo ql h f c m e = cc
+    by_case bad None l true false small (Ok a) qb qo ql h f c m e = cc
+    by_case bad None l true true false (Ok a) qb qo ql h f c m e = cc
+    by_case bad None (Some l) true true true (Ok a) qb qo ql h f c m e = cc
     by_case true o l low few small (Err j) qb qo ql h f c m e = cc
     by_case false o l low few small (Err j) qb qo ql h f c m e = cc
 
@@ -384,15 +401,15 @@ same_move finished t u = refl
 
 -- where a count of arguments is wrong, the token has no other fault
 record Clear (t : Token) : Type 0 where
-  own : own_fault t ≡ 0
+  own : own_fault t ≡ None
   fine : is_bad t ≡ false
 
-both_moves : (s : State) (t : Token) (k : ℕ) (b : State) → Uncounted t → move true s t ≡ Err k → move false s t ≡ Ok b → ⊥
+both_moves : (s : State) (t : Token) (k : FaultKind) (b : State) → Uncounted t → move true s t ≡ Err k → move false s t ≡ Ok b → ⊥
 both_moves s t k b u e f =
     let x : ◌≡◌ {A = Move} (Err k) (Ok b) = sym e ∙ same_move s t u ∙ f in
     cc
 
-clear_count : (s : State) (t : Token) (k : ℕ) (b : State) → move true s t ≡ Err k → move false s t ≡ Ok b → Clear t
+clear_count : (s : State) (t : Token) (k : FaultKind) (b : State) → move true s t ≡ Err k → move false s t ≡ Ok b → Clear t
 clear_count s Token.RightParen k b e f = record { own = refl; fine = refl }
 clear_count s Token.Comma k b e f = record { own = refl; fine = refl }
 clear_count s t k b e f = absurd (both_moves s t k b tt e f)
@@ -425,52 +442,63 @@ reached_more before s t s' r m = record {
 reached_stands : (before : List Token) (s : State) → Reached before s → Stands true before × Stands false before
 reached_stands before s r = (stands true before r.marks_so_far s r.strictly, stands false before r.marks_so_far s r.loosely)
 
--- which line it can be
-at_least_1 : (before : List Token) (t : Token) (m : ℕ) → Applies before t m → 1 ≤ m
-at_least_1 before t m (inl h) = omega (arith, h.0)
-at_least_1 before t m (inr (inl h)) = omega (arith, h.0)
-at_least_1 before t m (inr (inr (inl h))) = omega (arith, h.0)
-at_least_1 before t m (inr (inr (inr (inl h)))) = omega (arith, h.0)
-at_least_1 before t m (inr (inr (inr (inr (inl h))))) = omega (arith, h.0)
-at_least_1 before t m (inr (inr (inr (inr (inr (inl h)))))) = omega (arith, h.0)
-at_least_1 before t m (inr (inr (inr (inr (inr (inr h)))))) = omega (arith, h.0)
+-- which fault it can be
+at_least_1 : (k : FaultKind) → 1 ≤ number_of k
+at_least_1 FaultKind.BadCharacter = omega arith
+at_least_1 FaultKind.Misplaced = omega arith
+at_least_1 FaultKind.UnknownName = omega arith
+at_least_1 FaultKind.HugeNumber = omega arith
+at_least_1 FaultKind.ArgumentCount = omega arith
+at_least_1 FaultKind.TooDeep = omega arith
+at_least_1 FaultKind.TooLong = omega arith
+at_least_1 FaultKind.LargeRange = omega arith
+at_least_1 FaultKind.UnknownSheet = omega arith
+at_least_1 FaultKind.OutsideSheet = omega arith
 
-from_2 : (o m : ℕ) → o ≢ 1 → 0 < m → o ≡ m → 2 ≤ m
-from_2 o m n h e = above (m) (λ x. n (e ∙ x)) h
-  where
-    above : (m : ℕ) → m ≢ 1 → 0 < m → 2 ≤ m
-    above zero n h = absurd (omega (arith, h))
-    above (suc zero) n h = absurd (n refl)
-    above (suc (suc m)) n h = omega arith
+from_2 : (t : Token) (k : FaultKind) → is_bad t ≡ false → own_fault t ≡ Some k → 2 ≤ number_of k
+from_2 t FaultKind.BadCharacter b e = absurd (not_bad t b e)
+from_2 t FaultKind.Misplaced b e = omega arith
+from_2 t FaultKind.UnknownName b e = omega arith
+from_2 t FaultKind.HugeNumber b e = omega arith
+from_2 t FaultKind.ArgumentCount b e = omega arith
+from_2 t FaultKind.TooDeep b e = omega arith
+from_2 t FaultKind.TooLong b e = omega arith
+from_2 t FaultKind.LargeRange b e = omega arith
+from_2 t FaultKind.UnknownSheet b e = omega arith
+from_2 t FaultKind.OutsideSheet b e = omega arith
 
-at_least_2 : (before : List Token) (t : Token) (m : ℕ) → is_bad t ≡ false → Applies before t m → 2 ≤ m
-at_least_2 before t m b (inl h) = from_2 (own_fault t) m (not_bad t b) h.0 h.1
-at_least_2 before t m b (inr (inl h)) = omega (arith, h.0)
-at_least_2 before t m b (inr (inr (inl h))) = omega (arith, h.0)
-at_least_2 before t m b (inr (inr (inr (inl h)))) = omega (arith, h.0)
-at_least_2 before t m b (inr (inr (inr (inr (inl h))))) = omega (arith, h.0)
-at_least_2 before t m b (inr (inr (inr (inr (inr (inl h)))))) = omega (arith, h.0)
-at_least_2 before t m b (inr (inr (inr (inr (inr (inr h)))))) = let x = named_from_9 t m h.0 h.1 in omega (arith, x)
+at_least_2 : (before : List Token) (t : Token) (m : FaultKind) → is_bad t ≡ false → Applies before t m → 2 ≤ number_of m
+at_least_2 before t m b (inl h) = from_2 t m b h
+at_least_2 before t m b (inr (inl h)) = omega (arith, ap number_of h.0)
+at_least_2 before t m b (inr (inr (inl h))) = omega (arith, ap number_of h.0)
+at_least_2 before t m b (inr (inr (inr (inl h)))) = omega (arith, ap number_of h.0)
+at_least_2 before t m b (inr (inr (inr (inr (inl h))))) = omega (arith, ap number_of h.0)
+at_least_2 before t m b (inr (inr (inr (inr (inr (inl h)))))) = omega (arith, ap number_of h.0)
+at_least_2 before t m b (inr (inr (inr (inr (inr (inr h)))))) = let x = named_from_9 t m h in omega (arith, x)
 
-at_least_5 : (before : List Token) (t : Token) (m : ℕ) → Stands false (before ++ t ∷ []) → own_fault t ≡ 0 → Applies before t m → 5 ≤ m
-at_least_5 before t m st u (inl h) = absurd (omega (arith, h.0, h.1, u))
+-- a token without a fault of its own has none
+no_own : (t : Token) (m : FaultKind) → own_fault t ≡ None → own_fault t ≡ Some m → ⊥
+no_own t m u e = let x : ◌≡◌ {A = Option FaultKind} None (Some m) = sym u ∙ e in cc
+
+at_least_5 : (before : List Token) (t : Token) (m : FaultKind) → Stands false (before ++ t ∷ []) → own_fault t ≡ None → Applies before t m → 5 ≤ number_of m
+at_least_5 before t m st u (inl h) = absurd (no_own t m u h)
 at_least_5 before t m st u (inr (inl h)) = absurd (h.1 st)
-at_least_5 before t m st u (inr (inr (inl h))) = omega (arith, h.0)
-at_least_5 before t m st u (inr (inr (inr (inl h)))) = omega (arith, h.0)
-at_least_5 before t m st u (inr (inr (inr (inr (inl h))))) = omega (arith, h.0)
-at_least_5 before t m st u (inr (inr (inr (inr (inr (inl h)))))) = omega (arith, h.0)
-at_least_5 before t m st u (inr (inr (inr (inr (inr (inr h)))))) = let x = named_from_9 t m h.0 h.1 in omega (arith, x)
+at_least_5 before t m st u (inr (inr (inl h))) = omega (arith, ap number_of h.0)
+at_least_5 before t m st u (inr (inr (inr (inl h)))) = omega (arith, ap number_of h.0)
+at_least_5 before t m st u (inr (inr (inr (inr (inl h))))) = omega (arith, ap number_of h.0)
+at_least_5 before t m st u (inr (inr (inr (inr (inr (inl h)))))) = omega (arith, ap number_of h.0)
+at_least_5 before t m st u (inr (inr (inr (inr (inr (inr h)))))) = let x = named_from_9 t m h in omega (arith, x)
 
--- the lines that can apply to a token that stands
-abbrev Flaw : ℕ → State → Token → ℕ → Type 0
+-- the faults that a token which stands can have
+abbrev Flaw : ℕ → State → Token → FaultKind → Type 0
 Flaw n s t m =
-    ((0 < m) × (own_fault t ≡ m))
-    ⊎ ((m ≡ 6) × (32 < (mark_at s t).level))
-    ⊎ ((m ≡ 7) × (512 < n + (mark_at s t).nodes))
-    ⊎ ((m ≡ 8) × (65536 < (mark_at s t).cells))
-    ⊎ ((0 < m) × (named_fault t ≡ m))
+    (own_fault t ≡ Some m)
+    ⊎ ((m ≡ FaultKind.TooDeep) × (32 < (mark_at s t).level))
+    ⊎ ((m ≡ FaultKind.TooLong) × (512 < n + (mark_at s t).nodes))
+    ⊎ ((m ≡ FaultKind.LargeRange) × (65536 < (mark_at s t).cells))
+    ⊎ (named_fault t ≡ Some m)
 
-flawed : (before : List Token) (s : State) (t : Token) (m : ℕ) (r : Reached before s) → Stands true (before ++ t ∷ []) × Stands false (before ++ t ∷ []) → Applies before t m → Flaw (total_nodes r.marks_so_far) s t m
+flawed : (before : List Token) (s : State) (t : Token) (m : FaultKind) (r : Reached before s) → Stands true (before ++ t ∷ []) × Stands false (before ++ t ∷ []) → Applies before t m → Flaw (total_nodes r.marks_so_far) s t m
 flawed before s t m r st (inl h) = inl h
 flawed before s t m r st (inr (inl h)) = absurd (h.1 st.1)
 flawed before s t m r st (inr (inr (inl h))) = absurd (h.1 st.0)
@@ -485,59 +513,59 @@ flawed before s t m r st (inr (inr (inr (inr (inr (inl h)))))) =
     inr (inr (inr (inl (h.0, omega (arith, e, h.2)))))
 flawed before s t m r st (inr (inr (inr (inr (inr (inr h)))))) = inr (inr (inr (inr h)))
 
-no_flaw : (n : ℕ) → n ≤ 512 → (s : State) (t : Token) (s' : State) (m : ℕ) → Passes n s t s' → Flaw n s t m → ⊥
-no_flaw n w s t s' m p (inl h) = omega (arith, p.known, h.0, h.1)
+no_flaw : (n : ℕ) → n ≤ 512 → (s : State) (t : Token) (s' : State) (m : FaultKind) → Passes n s t s' → Flaw n s t m → ⊥
+no_flaw n w s t s' m p (inl h) = no_own t m p.known h
 no_flaw n w s t s' m p (inr (inl h)) = omega (arith, p.low, h.1)
 no_flaw n w s t s' m p (inr (inr (inl h))) = omega (arith, w, p.few, h.1)
 no_flaw n w s t s' m p (inr (inr (inr (inl h)))) = omega (arith, p.small, h.1)
-no_flaw n w s t s' m p (inr (inr (inr (inr h)))) = omega (arith, p.inside, h.0, h.1)
+no_flaw n w s t s' m p (inr (inr (inr (inr h)))) = let x : ◌≡◌ {A = Option FaultKind} None (Some m) = sym p.inside ∙ h in cc
 
-no_line : (before : List Token) (s : State) (t : Token) (s' : State) (r : Reached before s) → total_nodes r.marks_so_far ≤ 512 → Passes (total_nodes r.marks_so_far) s t s' → (m : ℕ) → Applies before t m → ⊥
+no_line : (before : List Token) (s : State) (t : Token) (s' : State) (r : Reached before s) → total_nodes r.marks_so_far ≤ 512 → Passes (total_nodes r.marks_so_far) s t s' → (m : FaultKind) → Applies before t m → ⊥
 no_line before s t s' r w p m a =
     no_flaw (total_nodes r.marks_so_far) w s t s' m p (flawed before s t m r (reached_stands (before ++ t ∷ []) s' (reached_more before s t s' r p.moved)) a)
 
 -- what is known of a token that stands behind n nodes, whose least flaw is k
 record Least (n : ℕ) (s : State) (t : Token) (k : ℕ) : Type 0 where
-  own : own_fault t ≡ 0
+  own : own_fault t ≡ None
   level : 6 < k → (mark_at s t).level ≤ 32
   nodes : 7 < k → n + (mark_at s t).nodes ≤ 512
   cells : 8 < k → (mark_at s t).cells ≤ 65536
   named : k ≤ 9
 
-least_flaw : (n : ℕ) (s : State) (t : Token) (k m : ℕ) → Least n s t k → Flaw n s t m → k ≤ m
-least_flaw n s t k m l (inl h) = absurd (omega (arith, l.own, h.0, h.1))
+least_flaw : (n : ℕ) (s : State) (t : Token) (k : ℕ) (m : FaultKind) → Least n s t k → Flaw n s t m → k ≤ number_of m
+least_flaw n s t k m l (inl h) = absurd (no_own t m l.own h)
 least_flaw n s t k m l (inr (inl h)) = by_size (nat_le k 6) refl
   where
-    by_size : (b : Bool) → nat_le k 6 ≡ b → k ≤ m
-    by_size true e = let x = leb-true k 6 e in omega (arith, x, h.0)
+    by_size : (b : Bool) → nat_le k 6 ≡ b → k ≤ number_of m
+    by_size true e = let x = leb-true k 6 e in omega (arith, x, ap number_of h.0)
     by_size false e = let x = leb-false k 6 e in let y = l.level x in absurd (omega (arith, y, h.1))
 least_flaw n s t k m l (inr (inr (inl h))) = by_size (nat_le k 7) refl
   where
-    by_size : (b : Bool) → nat_le k 7 ≡ b → k ≤ m
-    by_size true e = let x = leb-true k 7 e in omega (arith, x, h.0)
+    by_size : (b : Bool) → nat_le k 7 ≡ b → k ≤ number_of m
+    by_size true e = let x = leb-true k 7 e in omega (arith, x, ap number_of h.0)
     by_size false e = let x = leb-false k 7 e in let y = l.nodes x in absurd (omega (arith, y, h.1))
 least_flaw n s t k m l (inr (inr (inr (inl h)))) = by_size (nat_le k 8) refl
   where
-    by_size : (b : Bool) → nat_le k 8 ≡ b → k ≤ m
-    by_size true e = let x = leb-true k 8 e in omega (arith, x, h.0)
+    by_size : (b : Bool) → nat_le k 8 ≡ b → k ≤ number_of m
+    by_size true e = let x = leb-true k 8 e in omega (arith, x, ap number_of h.0)
     by_size false e = let x = leb-false k 8 e in let y = l.cells x in absurd (omega (arith, y, h.1))
-least_flaw n s t k m l (inr (inr (inr (inr h)))) = let x = named_from_9 t m h.0 h.1 in let y = l.named in omega (arith, x, y)
+least_flaw n s t k m l (inr (inr (inr (inr h)))) = let x = named_from_9 t m h in let y = l.named in omega (arith, x, y)
 
--- a step that fails does so by the first line
-record Lines (before : List Token) (t : Token) (n : ℕ) : Type 0 where
+-- a step that fails does so by the fault with the least number
+record Lines (before : List Token) (t : Token) (n : FaultKind) : Type 0 where
   applies : Applies before t n
-  least : (m : ℕ) → Applies before t m → n ≤ m
+  least : (m : FaultKind) → Applies before t m → number_of n ≤ number_of m
 
-lines : (before : List Token) (s : State) (t : Token) (n : ℕ) (r : Reached before s) → total_nodes r.marks_so_far ≤ 512 → step (total_nodes r.marks_so_far) s t ≡ Err n → Lines before t n
+lines : (before : List Token) (s : State) (t : Token) (n : FaultKind) (r : Reached before s) → total_nodes r.marks_so_far ≤ 512 → step (total_nodes r.marks_so_far) s t ≡ Err n → Lines before t n
 lines before s t n r w = by_case (is_bad t) (own_fault t) (named_fault t) (nat_le (mark_at s t).level 32) (nat_le (mark_at s t).nodes (512 - total_nodes r.marks_so_far)) (nat_le (mark_at s t).cells 65536) (move true s t) (move false s t) refl refl refl refl refl refl refl refl (judged s t)
   where
-    numbered : (k : ℕ) → Lines before t k → k ≡ n → Lines before t n
+    numbered : (k : FaultKind) → Lines before t k → k ≡ n → Lines before t n
     numbered k l e = subst (Lines before t) e l
 
-    strict_not : (m : ℕ) → move true s t ≡ Err m → Stands true (before ++ t ∷ []) → ⊥
+    strict_not : (m : FaultKind) → move true s t ≡ Err m → Stands true (before ++ t ∷ []) → ⊥
     strict_not m e = stands_not true before r.marks_so_far s t m r.strictly e
 
-    loose_not : (m : ℕ) → move false s t ≡ Err m → Stands false (before ++ t ∷ []) → ⊥
+    loose_not : (m : FaultKind) → move false s t ≡ Err m → Stands false (before ++ t ∷ []) → ⊥
     loose_not m e = stands_not false before r.marks_so_far s t m r.loosely e
 
     loose : (b : State) → move false s t ≡ Ok b → Stands false (before ++ t ∷ [])
@@ -546,32 +574,38 @@ lines before s t n r w = by_case (is_bad t) (own_fault t) (named_fault t) (nat_l
     both : (a : State) → move true s t ≡ Ok a → Stands true (before ++ t ∷ []) × Stands false (before ++ t ∷ [])
     both a e = reached_stands (before ++ t ∷ []) a (reached_more before s t a r e)
 
-    least_of : (k : ℕ) (a : State) → move true s t ≡ Ok a → Least (total_nodes r.marks_so_far) s t k → (m : ℕ) → Applies before t m → k ≤ m
+    least_of : (k : ℕ) (a : State) → move true s t ≡ Ok a → Least (total_nodes r.marks_so_far) s t k → (m : FaultKind) → Applies before t m → k ≤ number_of m
     least_of k a e h m x = least_flaw (total_nodes r.marks_so_far) s t k m h (flawed before s t m r (both a e) x)
 
-    least_own : (k : ℕ) (a : State) → own_fault t ≡ k → move true s t ≡ Ok a → (m : ℕ) → Applies before t m → k ≤ m
+    same_own : (k m : FaultKind) → own_fault t ≡ Some k → own_fault t ≡ Some m → number_of k ≤ number_of m
+    same_own k m o e = let x : Some k ≡ Some m = sym o ∙ e in let y : k ≡ m = cc in omega (arith, ap number_of y)
+
+    same_named : (k m : FaultKind) → named_fault t ≡ Some k → named_fault t ≡ Some m → number_of k ≤ number_of m
+    same_named k m o e = let x : Some k ≡ Some m = sym o ∙ e in let y : k ≡ m = cc in omega (arith, ap number_of y)
+
+    least_own : (k : FaultKind) (a : State) → own_fault t ≡ Some k → move true s t ≡ Ok a → (m : FaultKind) → Applies before t m → number_of k ≤ number_of m
     least_own k a o e m x = of_flaw (flawed before s t m r (both a e) x)
       where
-        of_flaw : Flaw (total_nodes r.marks_so_far) s t m → k ≤ m
-        of_flaw (inl h) = omega (arith, o, h.1)
-        of_flaw (inr (inl h)) = let y = (own_number t).few in omega (arith, o, y, h.0)
-        of_flaw (inr (inr (inl h))) = let y = (own_number t).few in omega (arith, o, y, h.0)
-        of_flaw (inr (inr (inr (inl h)))) = let y = (own_number t).few in omega (arith, o, y, h.0)
-        of_flaw (inr (inr (inr (inr h)))) = let y = (own_number t).few in let z = named_from_9 t m h.0 h.1 in omega (arith, o, y, z)
+        of_flaw : Flaw (total_nodes r.marks_so_far) s t m → number_of k ≤ number_of m
+        of_flaw (inl h) = same_own k m o h
+        of_flaw (inr (inl h)) = let y = own_from_1 t k o in omega (arith, y, ap number_of h.0)
+        of_flaw (inr (inr (inl h))) = let y = own_from_1 t k o in omega (arith, y, ap number_of h.0)
+        of_flaw (inr (inr (inr (inl h)))) = let y = own_from_1 t k o in omega (arith, y, ap number_of h.0)
+        of_flaw (inr (inr (inr (inr h)))) = let y = own_from_1 t k o in let z = named_from_9 t m h in omega (arith, y, z)
 
-    least_named : (k : ℕ) (a : State) → own_fault t ≡ 0 → named_fault t ≡ k → (mark_at s t).level ≤ 32 → (mark_at s t).nodes ≤ 512 - total_nodes r.marks_so_far → (mark_at s t).cells ≤ 65536 → move true s t ≡ Ok a → (m : ℕ) → Applies before t m → k ≤ m
+    least_named : (k : FaultKind) (a : State) → own_fault t ≡ None → named_fault t ≡ Some k → (mark_at s t).level ≤ 32 → (mark_at s t).nodes ≤ 512 - total_nodes r.marks_so_far → (mark_at s t).cells ≤ 65536 → move true s t ≡ Ok a → (m : FaultKind) → Applies before t m → number_of k ≤ number_of m
     least_named k a o q u v z e m x = of_flaw (flawed before s t m r (both a e) x)
       where
-        of_flaw : Flaw (total_nodes r.marks_so_far) s t m → k ≤ m
-        of_flaw (inl h) = absurd (omega (arith, o, h.0, h.1))
+        of_flaw : Flaw (total_nodes r.marks_so_far) s t m → number_of k ≤ number_of m
+        of_flaw (inl h) = absurd (no_own t m o h)
         of_flaw (inr (inl h)) = absurd (omega (arith, u, h.1))
         of_flaw (inr (inr (inl h))) = absurd (omega (arith, w, v, h.1))
         of_flaw (inr (inr (inr (inl h)))) = absurd (omega (arith, z, h.1))
-        of_flaw (inr (inr (inr (inr h)))) = omega (arith, q, h.1)
+        of_flaw (inr (inr (inr (inr h)))) = same_named k m q h
 
-    by_case : (bad : Bool) (o l : ℕ) (low few small : Bool) (m lo : Move) → is_bad t ≡ bad → own_fault t ≡ o → named_fault t ≡ l → nat_le (mark_at s t).level 32 ≡ low → nat_le (mark_at s t).nodes (512 - total_nodes r.marks_so_far) ≡ few → nat_le (mark_at s t).cells 65536 ≡ small → move true s t ≡ m → move false s t ≡ lo → Judged m lo → checked bad o l low few small m ≡ Err n → Lines before t n
+    by_case : (bad : Bool) (o l : Option FaultKind) (low few small : Bool) (m lo : Move) → is_bad t ≡ bad → own_fault t ≡ o → named_fault t ≡ l → nat_le (mark_at s t).level 32 ≡ low → nat_le (mark_at s t).nodes (512 - total_nodes r.marks_so_far) ≡ few → nat_le (mark_at s t).cells 65536 ≡ small → move true s t ≡ m → move false s t ≡ lo → Judged m lo → checked bad o l low few small m ≡ Err n → Lines before t n
     by_case true o l low few small (Err k) lo qb qo ql h f c m q jd e =
-        numbered 1 (record { applies = inl (omega arith, bad_is t qb); least = at_least_1 before t }) cc
+        numbered FaultKind.BadCharacter (record { applies = inl (bad_is t qb); least = λ i x. at_least_1 i }) cc
     by_case false o l low few small (Err k) (Err j) qb qo ql h f c m q jd e =
         numbered k (subst (Lines before t) (sym jd) (record { applies = inr (inl (refl, loose_not j q)); least = λ i. at_least_2 before t i qb })) cc
     by_case false o l low few small (Err k) (Ok b) qb qo ql h f c m q jd e =
@@ -579,37 +613,37 @@ lines before s t n r w = by_case (is_bad t) (own_fault t) (named_fault t) (nat_l
           applies = inr (inr (inl (refl, strict_not k m, loose b q)));
           least = λ i. at_least_5 before t i (loose b q) (clear_count s t k b m q).own;
         })) cc
-    by_case bad (suc o) l low few small (Ok a) lo qb qo ql h f c m q jd e =
-        numbered (suc o) (record { applies = inl (omega arith, qo); least = least_own (suc o) a qo m }) cc
-    by_case bad zero l false few small (Ok a) lo qb qo ql h f c m q jd e =
+    by_case bad (Some o) l low few small (Ok a) lo qb qo ql h f c m q jd e =
+        numbered o (record { applies = inl qo; least = least_own o a qo m }) cc
+    by_case bad None l false few small (Ok a) lo qb qo ql h f c m q jd e =
         let st = both a m in
         let high : 32 < (mark_at s t).level = leb-false _ _ h in
         let is = ap (λ x. x.level) (mark_is before r.marks_so_far s t r.strictly st.0) in
-        numbered 6 (record {
+        numbered FaultKind.TooDeep (record {
           applies = inr (inr (inr (inl (refl, st.0, omega (arith, is, high)))));
           least = least_of 6 a m (record { own = qo; level = λ x. absurd (omega (arith, x)); nodes = λ x. absurd (omega (arith, x)); cells = λ x. absurd (omega (arith, x)); named = omega arith });
         }) cc
-    by_case bad zero l true false small (Ok a) lo qb qo ql h f c m q jd e =
+    by_case bad None l true false small (Ok a) lo qb qo ql h f c m q jd e =
         let st = both a m in
         let more : 512 - total_nodes r.marks_so_far < (mark_at s t).nodes = leb-false _ _ f in
         let many : 512 < total_nodes r.marks_so_far + (mark_at s t).nodes = omega (arith, more) in
         let is = total_is before r.marks_so_far s t r.strictly st.0 in
-        numbered 7 (record {
+        numbered FaultKind.TooLong (record {
           applies = inr (inr (inr (inr (inl (refl, st.0, omega (arith, is, many))))));
           least = least_of 7 a m (record { own = qo; level = λ x. leb-true _ _ h; nodes = λ x. absurd (omega (arith, x)); cells = λ x. absurd (omega (arith, x)); named = omega arith });
         }) cc
-    by_case bad zero l true true false (Ok a) lo qb qo ql h f c m q jd e =
+    by_case bad None l true true false (Ok a) lo qb qo ql h f c m q jd e =
         let st = both a m in
         let large : 65536 < (mark_at s t).cells = leb-false _ _ c in
         let is = ap (λ x. x.cells) (mark_is before r.marks_so_far s t r.strictly st.0) in
         let room : (mark_at s t).nodes ≤ 512 - total_nodes r.marks_so_far = leb-true _ _ f in
-        numbered 8 (record {
+        numbered FaultKind.LargeRange (record {
           applies = inr (inr (inr (inr (inr (inl (refl, st.0, omega (arith, is, large)))))));
           least = least_of 8 a m (record { own = qo; level = λ x. leb-true _ _ h; nodes = λ x. omega (arith, w, room); cells = λ x. absurd (omega (arith, x)); named = omega arith });
         }) cc
-    by_case bad zero (suc l) true true true (Ok a) lo qb qo ql h f c m q jd e =
-        numbered (suc l) (record { applies = inr (inr (inr (inr (inr (inr (omega arith, ql)))))); least = least_named (suc l) a qo ql (leb-true _ _ h) (leb-true _ _ f) (leb-true _ _ c) m }) cc
-    by_case bad zero zero true true true (Ok a) lo qb qo ql h f c m q jd e = cc
+    by_case bad None (Some l) true true true (Ok a) lo qb qo ql h f c m q jd e =
+        numbered l (record { applies = inr (inr (inr (inr (inr (inr ql))))); least = least_named l a qo ql (leb-true _ _ h) (leb-true _ _ f) (leb-true _ _ c) m }) cc
+    by_case bad None None true true true (Ok a) lo qb qo ql h f c m q jd e = cc
 
 -- what a run says
 abbrev Tells : List Spot → ℕ → Outcome → Type 0
@@ -646,10 +680,10 @@ map-more : (before : List Spot) (t : Spot) → tokens_of (before ++ t ∷ []) �
 map-more [] t = refl
 map-more (x ∷ before) t = ap (λ y. x.token ∷ y) (map-more before t)
 
-comes_lines : (before : List Token) (n : ℕ) (s : State) (t : Token) (k : ℕ) → Comes before n s → step n s t ≡ Err k → Lines before t k
+comes_lines : (before : List Token) (n : ℕ) (s : State) (t : Token) (k : FaultKind) → Comes before n s → step n s t ≡ Err k → Lines before t k
 comes_lines before n s t k c e = let few = c.few in let nodes = c.nodes in lines before s t k c.reached (omega (arith, nodes, few)) (ap (λ j. step j s t) c.nodes ∙ e)
 
-found : (before after : List Spot) (t : Spot) (spots : List Spot) (end n k : ℕ) (s : State) → Comes (tokens_of before) n s → step n s t.token ≡ Err k → spots ++ record { token = Token.End; place = end } ∷ [] ≡ before ++ t ∷ after → FirstFault spots end t.place k
+found : (before after : List Spot) (t : Spot) (spots : List Spot) (end n : ℕ) (k : FaultKind) (s : State) → Comes (tokens_of before) n s → step n s t.token ≡ Err k → spots ++ record { token = Token.End; place = end } ∷ [] ≡ before ++ t ∷ after → FirstFault spots end t.place k
 found before after t spots end n k s c e text =
     let l = comes_lines (tokens_of before) n s t.token k c e in
     record {
@@ -682,7 +716,7 @@ tells (t ∷ ts) end n s before c = by_step (λ s' c'. tells ts end (n + (mark_a
     by_step go (Err k) e = found before (ts ++ record { token = Token.End; place = end } ∷ []) t (before ++ t ∷ ts) end n k s c e (append_assoc before (t ∷ ts) _)
 
 -- a run from the start that ends in a fault does so at the first token to which a line applies, by the first line
-pub run_fault : (ts : List Spot) (end place n : ℕ) → run ts end 0 start ≡ fault place n → FirstFault ts end place n
+pub run_fault : (ts : List Spot) (end place : ℕ) (n : FaultKind) → run ts end 0 start ≡ fault place n → FirstFault ts end place n
 run_fault ts end place n e = subst (Tells ts end) e (tells ts end 0 start [] comes_none)
 
 -- a run that is accepted has no fault

@@ -1,4 +1,5 @@
 pub mod Syntax
+pub mod FaultKinds
 pub mod Fault
 pub mod Steps
 pub mod Rest

@@ -1,51 +1,54 @@
 -- What the readers of a formula's parts ensure.
 use Rattle.std.specs.Prelude.{◌≡◌, ℕ, suc, ◌+◌, ◌≤◌, List, ◌∷◌, ◌++◌, true, false, Option, Some, None, Ok, Err}
 use Rattle.cell_values.specs.declared.address.Addr.{Addr}
+use Rattle.cell_values.specs.declared.TheConstants.{MAX_RANGE_CELLS}
 use Rattle.formula_trees.specs.declared.tree.Fun.{Fun}
 use Rattle.formula_trees.specs.Expr.{Expr, Exprs, Range}
 use Rattle.formula_trees.specs.declared.functions.Kind.{Kind}
+use Rattle.formula_trees.specs.declared.TheConstants.{MAX_LEVELS}
 use Rattle.formula_tokens.specs.declared.token.Literal.{Literal}
 use Rattle.formula_tokens.specs.declared.token.Token.{Token}
 use Rattle.formula_tokens.specs.declared.token.Word.{Word}
-use Rattle.formula_grammar.specs.declared.reader.ReadError.{ReadError}
-use Rattle.formula_grammar.specs.declared.reader.ReadError.TheVariants.{Bad, OutOfMemory}
+use Rattle.formula_grammar.specs.declared.faults.FaultKind.{FaultKind}
+use Rattle.formula_grammar.specs.declared.faults.FormulaFault.{FormulaFault}
+use Rattle.formula_grammar.specs.declared.faults.FormulaFault.TheVariants.{Bad, OutOfMemory}
 use Rattle.formula_grammar.specs.Fault.{corner_fault}
 use Rattle.formula_grammar.specs.Rest.{Rest, next_token, tokens_left, run_rest, begins_target}
 use Rattle.formula_grammar.specs.Syntax.{node, quiet, kind_at, Target, here, on_sheet, Expression, Sums, Term, Signed, Primary, Arguments, Argument, target_spelling, spelling, sums_spelling, term_spelling, signed_spelling, primary_spelling, arguments_spelling, argument_spelling, Fits, SumsFit, TermFits, SignedFits, PrimaryFits, ArgumentsFit, ArgumentFits, IsOfKind, is_alone, literal_meaning, reference_at, meaning, sums_meaning, term_meaning, signed_meaning, primary_meaning, arguments_meaning, argument_meaning}
 use Rattle.formula_grammar.specs.Steps.{Frame, in_call, State, operand, operator, argument, sheet, corner, colon, ended, landed, move, mark_at, open_levels, Outcome, fault}
 
 -- the run ends in the fault, unless memory ran out
-abbrev pub Fails : ReadError → Outcome → Type 0
-Fails (Bad place n) o = o ≡ fault place n
+abbrev pub Fails : FormulaFault → Outcome → Type 0
+Fails (Bad place k) o = o ≡ fault place k
 Fails OutOfMemory o = Unit {0}
 
 -- wherever the next token may stand and makes a node, the run fails
-abbrev pub FailsNode : Rest → ReadError → Type 0
-FailsNode old e = (s s' : State) → move true s (next_token old) ≡ Ok s' → (mark_at s (next_token old)).level ≤ 32 → (mark_at s (next_token old)).nodes ≡ 1 → (mark_at s (next_token old)).cells ≤ 65536 → Fails e (run_rest old s)
+abbrev pub FailsNode : Rest → FormulaFault → Type 0
+FailsNode old e = (s s' : State) → move true s (next_token old) ≡ Ok s' → (mark_at s (next_token old)).level ≤ MAX_LEVELS → (mark_at s (next_token old)).nodes ≡ 1 → (mark_at s (next_token old)).cells ≤ MAX_RANGE_CELLS → Fails e (run_rest old s)
 
 -- wherever so many levels are open, a run over an operand goes on behind it, or fails
 abbrev pub RunsOperand : ℕ → Rest → Rest → Type 0
 RunsOperand depth old new = (fs : List Frame) → open_levels fs ≡ depth → run_rest old (operand 0 fs) ≡ run_rest new (operator fs)
 
-abbrev pub FailsOperand : ℕ → Rest → ReadError → Type 0
+abbrev pub FailsOperand : ℕ → Rest → FormulaFault → Type 0
 FailsOperand depth old e = (fs : List Frame) → open_levels fs ≡ depth → Fails e (run_rest old (operand 0 fs))
 
 abbrev pub RunsSigned : ℕ → Rest → Rest → Type 0
 RunsSigned depth old new = (s : ℕ) (fs : List Frame) → s + open_levels fs ≡ depth → run_rest old (operand s fs) ≡ run_rest new (operator fs)
 
-abbrev pub FailsSigned : ℕ → Rest → ReadError → Type 0
+abbrev pub FailsSigned : ℕ → Rest → FormulaFault → Type 0
 FailsSigned depth old e = (s : ℕ) (fs : List Frame) → s + open_levels fs ≡ depth → Fails e (run_rest old (operand s fs))
 
 abbrev pub RunsArguments : Fun → ℕ → ℕ → Rest → Rest → Type 0
 RunsArguments f n depth old new = (s : ℕ) (fs : List Frame) → suc (s + open_levels fs) ≡ depth → run_rest old (argument (kind_at (Some f) n) (in_call (Some f) n s ∷ fs)) ≡ run_rest new (operator fs)
 
-abbrev pub FailsArguments : Fun → ℕ → ℕ → Rest → ReadError → Type 0
+abbrev pub FailsArguments : Fun → ℕ → ℕ → Rest → FormulaFault → Type 0
 FailsArguments f n depth old e = (s : ℕ) (fs : List Frame) → suc (s + open_levels fs) ≡ depth → Fails e (run_rest old (argument (kind_at (Some f) n) (in_call (Some f) n s ∷ fs)))
 
 abbrev pub RunsArgument : Kind → ℕ → Rest → Rest → Type 0
 RunsArgument k depth old new = (fs : List Frame) → open_levels fs ≡ depth → run_rest old (argument k fs) ≡ run_rest new (ended fs)
 
-abbrev pub FailsArgument : Kind → ℕ → Rest → ReadError → Type 0
+abbrev pub FailsArgument : Kind → ℕ → Rest → FormulaFault → Type 0
 FailsArgument k depth old e = (fs : List Frame) → open_levels fs ≡ depth → Fails e (run_rest old (argument k fs))
 
 -- what stands between the old and the new rest is such a part, and the tree is its meaning
@@ -109,7 +112,7 @@ pub record ReadsAlone (own : Addr) (k : Kind) (old new : Rest) (tree : Expr) : T
   pub means : tree ≡ argument_meaning own part
   pub runs : (fs : List Frame) → run_rest old (argument k fs) ≡ run_rest new (ended fs)
 
-abbrev pub FailsAlone : Kind → Rest → ReadError → Type 0
+abbrev pub FailsAlone : Kind → Rest → FormulaFault → Type 0
 FailsAlone k old e = (fs : List Frame) → Fails e (run_rest old (argument k fs))
 
 -- a reference as it is written, of which the sheet is known
@@ -123,15 +126,15 @@ pub record Awaits (k : Kind) (fs : List Frame) (s : State) (next : Token) : Type
   pub word_mark : (w : Word) → mark_at s (Token.Reference w) ≡ node
   pub prefix : (x : Option ℕ) → move true s (Token.Prefix x) ≡ Ok (sheet k fs)
   pub prefix_mark : (x : Option ℕ) → mark_at s (Token.Prefix x) ≡ quiet
-  pub other : begins_target next ≡ false → move true s next ≡ Err 2
+  pub other : begins_target next ≡ false → move true s next ≡ Err FaultKind.Misplaced
 
 -- what stands between the old and the new rest is a reference
 pub record ReadsTarget (old new : Rest) (s : Option ℕ) (w : Word) : Type 0 where
   pub spelled : tokens_left old ≡ target_spelling (target_of s w) ++ tokens_left new
-  pub inside : corner_fault w ≡ 0
+  pub inside : corner_fault w ≡ None
   pub runs : (k : Kind) (fs : List Frame) (from : State) → Awaits k fs from (next_token old) → run_rest old from ≡ run_rest new (landed k w fs)
 
-abbrev pub FailsTarget : Rest → ReadError → Type 0
+abbrev pub FailsTarget : Rest → FormulaFault → Type 0
 FailsTarget old e = (k : Kind) (fs : List Frame) (from : State) → Awaits k fs from (next_token old) → Fails e (run_rest old from)
 
 -- a colon and a second corner
@@ -141,25 +144,25 @@ pub record ReadsSecond (own : Addr) (s : Option ℕ) (first : Word) (old new : R
   pub means : tree ≡ Range (reference_at own s first) (reference_at own s second)
   pub runs : (k : Kind) (fs : List Frame) → run_rest old (corner k first fs) ≡ run_rest new (ended fs)
 
-abbrev pub FailsSecond : Word → Rest → ReadError → Type 0
+abbrev pub FailsSecond : Word → Rest → FormulaFault → Type 0
 FailsSecond first old e = (k : Kind) (fs : List Frame) → Fails e (run_rest old (corner k first fs))
 
 -- what stands between the old and the new rest is the word behind a sheet prefix
 pub record ReadsSheetWord (old new : Rest) (w : Word) : Type 0 where
   pub spelled : tokens_left old ≡ Token.SheetReference w ∷ tokens_left new
-  pub inside : corner_fault w ≡ 0
+  pub inside : corner_fault w ≡ None
   pub runs : (k : Kind) (fs : List Frame) → run_rest old (sheet k fs) ≡ run_rest new (landed k w fs)
 
-abbrev pub FailsSheetWord : Rest → ReadError → Type 0
+abbrev pub FailsSheetWord : Rest → FormulaFault → Type 0
 FailsSheetWord old e = (k : Kind) (fs : List Frame) → Fails e (run_rest old (sheet k fs))
 
 -- what stands between the old and the new rest is a range's second corner
 pub record ReadsSecondWord (first : Word) (old new : Rest) (w : Word) : Type 0 where
   pub spelled : tokens_left old ≡ Token.Reference w ∷ tokens_left new
-  pub inside : corner_fault w ≡ 0
+  pub inside : corner_fault w ≡ None
   pub runs : (fs : List Frame) → run_rest old (colon first fs) ≡ run_rest new (ended fs)
 
-abbrev pub FailsSecondWord : Word → Rest → ReadError → Type 0
+abbrev pub FailsSecondWord : Word → Rest → FormulaFault → Type 0
 FailsSecondWord first old e = (fs : List Frame) → Fails e (run_rest old (colon first fs))
 
 -- what stands between the old and the new rest is a literal that is an argument by itself

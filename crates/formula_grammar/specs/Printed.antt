@@ -12,6 +12,7 @@ use Rattle.formula_trees.specs.declared.tree.Sign.{Sign}
 use Rattle.formula_trees.specs.declared.tree.Op.{Op}
 use Rattle.formula_trees.specs.Expr.{Expr, Exprs, Number, Text, Truth, Ref, Range, RefError, Unary, Binary, Call, End, More}
 use Rattle.formula_trees.specs.References.{resolve}
+use Rattle.formula_trees.specs.declared.levels.TheConstants.{SIGN_LEVEL}
 use Rattle.formula_trees.specs.Sound.{level_of, op_level}
 use Rattle.formula_tokens.specs.Words.{function_name}
 
@@ -72,7 +73,7 @@ abbrev mutual
   text_of names ts at (Ref r) = reference_text names at r
   text_of names ts at (Range r s) = reference_text names at r ++ (codes ":" ++ corner_text at s)
   text_of names ts at RefError = codes "#REF!"
-  text_of names ts at (Unary s a) = sign_text s ++ enclosed 4 a (text_of names ts at a)
+  text_of names ts at (Unary s a) = sign_text s ++ enclosed SIGN_LEVEL a (text_of names ts at a)
   text_of names ts at (Binary o a b) = enclosed (op_level o) a (text_of names ts at a) ++ (op_text o ++ enclosed (suc (op_level o)) b (text_of names ts at b))
   text_of names ts at (Call f args) = function_name f ++ (codes "(" ++ (arguments_text names ts at args ++ codes ")"))
 

@@ -4,6 +4,7 @@ use Rattle.formula_trees.specs.declared.tree.Sign.{Sign}
 use Rattle.formula_trees.specs.Sound.{op_level}
 use Rattle.formula_tokens.specs.declared.token.Spot.{Spot}
 use Rattle.formula_tokens.specs.declared.token.Token.{Token}
+use Rattle.formula_grammar.specs.declared.faults.FaultKind.{FaultKind}
 use Rattle.formula_grammar.specs.Fault.{tokens_of}
 use Rattle.formula_grammar.specs.Steps.{State, Outcome, run, sign_of, is_bad}
 
@@ -37,9 +38,9 @@ behind_next r k = record { spots = drop 1 r.spots; end = r.end; nodes = r.nodes 
 abbrev pub run_rest : Rest → State → Outcome
 run_rest r s = run r.spots r.end r.nodes s
 
--- the fault of a token that cannot stand where it is
-abbrev pub misfit : Token → ℕ
-misfit t = cond (is_bad t) 1 2
+-- what is wrong with a token that cannot stand where it is
+abbrev pub misfit : Token → FaultKind
+misfit t = cond (is_bad t) FaultKind.BadCharacter FaultKind.Misplaced
 
 -- the level of the operator that a token is, or 0
 abbrev pub token_level : Token → ℕ

@@ -5,6 +5,7 @@ use Rattle.cell_values.specs.Addresses.{IsOnSheet}
 use Rattle.cell_values.specs.Interned.{AreDistinct}
 use Rattle.cell_values.specs.Names.{AreSheetNames}
 use Rattle.cell_values.specs.Texts.{Texts}
+use Rattle.formula_trees.specs.declared.TheConstants.{MAX_FORMULA_BYTES}
 use Rattle.formula_trees.specs.Expr.{Expr}
 use Rattle.formula_trees.specs.SheetNumbers.{SheetsBelow}
 use Rattle.formula_trees.specs.Sound.{IsSound}
@@ -15,4 +16,4 @@ use Rattle.formula_grammar.specs.Reading.{Means}
 -- what is printed of a sound formula means it again, where it has at most 1,024 bytes
 abbrev pub PrintedReadsBack : Type 0
 PrintedReadsBack = (names : List (List ℕ)) (ts : Texts) (at : Addr) (e : Expr) → AreSheetNames names → AreDistinct ts → IsOnSheet at → IsSound at e
-    → TextsBelow (λ i. i < length ts) e → SheetsBelow (length names) e → length (printed names ts at e) ≤ 1024 → Means names ts at (printed names ts at e) e
+    → TextsBelow (λ i. i < length ts) e → SheetsBelow (length names) e → length (printed names ts at e) ≤ MAX_FORMULA_BYTES → Means names ts at (printed names ts at e) e

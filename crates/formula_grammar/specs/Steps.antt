@@ -8,6 +8,9 @@ use Rattle.formula_trees.specs.declared.functions.Kind.TheVariants.{Plain, Place
 use Rattle.formula_tokens.specs.declared.token.Spot.{Spot}
 use Rattle.formula_tokens.specs.declared.token.Token.{Token}
 use Rattle.formula_tokens.specs.declared.token.Word.{Word}
+use Rattle.cell_values.specs.declared.TheConstants.{MAX_RANGE_CELLS}
+use Rattle.formula_trees.specs.declared.TheConstants.{MAX_NODES, MAX_LEVELS}
+use Rattle.formula_grammar.specs.declared.faults.FaultKind.{FaultKind}
 use Rattle.formula_grammar.specs.Syntax.{Mark, quiet, node, opening, signing, sized, cells_between, kind_at, are_enough, may_go_on, is_ref_error, is_exact}
 use Rattle.formula_grammar.specs.Fault.{own_fault, named_fault}
 
@@ -39,13 +42,13 @@ pub data State : Type 0 where
   finished : State
 
 abbrev pub Move : Type 0
-Move = Result State ℕ
+Move = Result State FaultKind
 
--- a count of arguments that is wrong is fault 5, where counts matter
+-- a count of arguments that is wrong is a fault, where counts matter
 abbrev pub if_counted : Bool → Bool → State → Move
 if_counted false b s = Ok s
 if_counted true true s = Ok s
-if_counted true false s = Err 5
+if_counted true false s = Err FaultKind.ArgumentCount
 
 -- the sign that an operator is
 abbrev pub sign_of : Op → Option Sign
@@ -55,7 +58,7 @@ sign_of _ = None
 
 abbrev pub on_sign : Option Sign → ℕ → List Frame → Move
 on_sign (Some sign) s fs = Ok (operand (suc s) fs)
-on_sign None s fs = Err 2
+on_sign None s fs = Err FaultKind.Misplaced
 
 abbrev pub on_operand : ℕ → List Frame → Token → Move
 on_operand s fs (Token.Literal l) = Ok (operator fs)
@@ -64,28 +67,28 @@ on_operand s fs (Token.Prefix x) = Ok (sheet Plain fs)
 on_operand s fs (Token.Function f) = Ok (named f s fs)
 on_operand s fs Token.LeftParen = Ok (operand 0 (in_group s ∷ fs))
 on_operand s fs (Token.Operator op) = on_sign (sign_of op) s fs
-on_operand s fs t = Err 2
+on_operand s fs t = Err FaultKind.Misplaced
 
 abbrev pub on_right : Bool → List Frame → Move
-on_right strict [] = Err 2
+on_right strict [] = Err FaultKind.Misplaced
 on_right strict (in_group s ∷ fs) = Ok (operator fs)
 on_right strict (in_call f n s ∷ fs) = if_counted strict (are_enough f (suc n)) (operator fs)
 
 abbrev pub on_comma : Bool → List Frame → Move
-on_comma strict [] = Err 2
-on_comma strict (in_group s ∷ fs) = Err 2
+on_comma strict [] = Err FaultKind.Misplaced
+on_comma strict (in_group s ∷ fs) = Err FaultKind.Misplaced
 on_comma strict (in_call f n s ∷ fs) = if_counted strict (may_go_on f (suc n)) (argument (kind_at f (suc n)) (in_call f (suc n) s ∷ fs))
 
 abbrev pub on_end : List Frame → Move
 on_end [] = Ok finished
-on_end (f ∷ fs) = Err 2
+on_end (f ∷ fs) = Err FaultKind.Misplaced
 
 -- behind what may only be closed
 abbrev pub on_close : Bool → List Frame → Token → Move
 on_close strict fs Token.RightParen = on_right strict fs
 on_close strict fs Token.Comma = on_comma strict fs
 on_close strict fs Token.End = on_end fs
-on_close strict fs t = Err 2
+on_close strict fs t = Err FaultKind.Misplaced
 
 -- behind an operand an operator may come, or what closes
 abbrev pub on_operator : Bool → List Frame → Token → Move
@@ -95,7 +98,7 @@ on_operator strict fs t = on_close strict fs t
 -- a literal that has to be an argument by itself
 abbrev pub on_lone : Bool → List Frame → Move
 on_lone true fs = Ok (ended fs)
-on_lone false fs = Err 2
+on_lone false fs = Err FaultKind.Misplaced
 
 abbrev pub on_argument : Kind → List Frame → Token → Move
 on_argument Plain fs t = on_operand 0 fs t
@@ -105,9 +108,9 @@ on_argument Many fs t = on_operand 0 fs t
 on_argument Place fs (Token.Reference w) = Ok (corner Place w fs)
 on_argument Place fs (Token.Prefix x) = Ok (sheet Place fs)
 on_argument Place fs (Token.Literal l) = on_lone (is_ref_error l) fs
-on_argument Place fs t = Err 2
+on_argument Place fs t = Err FaultKind.Misplaced
 on_argument Exact fs (Token.Literal l) = on_lone (is_exact l) fs
-on_argument Exact fs t = Err 2
+on_argument Exact fs t = Err FaultKind.Misplaced
 
 -- behind a reference: a range may begin with it where an argument of these kinds does
 abbrev pub landed : Kind → Word → List Frame → State
@@ -118,7 +121,7 @@ landed Place w fs = corner Place w fs
 
 abbrev pub on_sheet_word : Kind → List Frame → Token → Move
 on_sheet_word k fs (Token.SheetReference w) = Ok (landed k w fs)
-on_sheet_word k fs t = Err 2
+on_sheet_word k fs t = Err FaultKind.Misplaced
 
 abbrev pub on_no_range : Bool → Kind → List Frame → Token → Move
 on_no_range strict Place fs t = on_close strict fs t
@@ -132,7 +135,7 @@ on_corner strict k w fs t = on_no_range strict k fs t
 
 abbrev pub on_named : Option Fun → ℕ → List Frame → Token → Move
 on_named f s fs Token.LeftParen = Ok (opened f s fs)
-on_named f s fs t = Err 2
+on_named f s fs t = Err FaultKind.Misplaced
 
 abbrev pub on_opened : Bool → Option Fun → ℕ → List Frame → Token → Move
 on_opened strict f s fs Token.RightParen = if_counted strict (are_enough f 0) (operator fs)
@@ -140,7 +143,7 @@ on_opened strict f s fs t = on_argument (kind_at f 0) (in_call f 0 s ∷ fs) t
 
 abbrev pub on_colon : List Frame → Token → Move
 on_colon fs (Token.Reference w) = Ok (ended fs)
-on_colon fs t = Err 2
+on_colon fs t = Err FaultKind.Misplaced
 
 -- what a token makes of a state, by the grammar alone
 abbrev pub move : Bool → State → Token → Move
@@ -153,7 +156,7 @@ move strict (sheet k fs) t = on_sheet_word k fs t
 move strict (corner k w fs) t = on_corner strict k w fs t
 move strict (colon w fs) t = on_colon fs t
 move strict (ended fs) t = on_close strict fs t
-move strict finished t = Err 2
+move strict finished t = Err FaultKind.Misplaced
 
 -- how many levels are open
 abbrev pub open_levels : List Frame → ℕ
@@ -205,38 +208,38 @@ is_bad t = false
 
 -- a token that stands where it may: the fault of its own, if it has one; else whether it opens a level that is
 -- too high, makes a node too many or a range that is too large; else the fault of what it names
-abbrev pub within : ℕ → ℕ → Bool → Bool → Bool → State → Move
-within zero zero true true true s = Ok s
-within (suc e) l low few small s = Err (suc e)
-within zero l false few small s = Err 6
-within zero l true false small s = Err 7
-within zero l true true false s = Err 8
-within zero (suc l) true true true s = Err (suc l)
+abbrev pub within : Option FaultKind → Option FaultKind → Bool → Bool → Bool → State → Move
+within None None true true true s = Ok s
+within (Some e) l low few small s = Err e
+within None l false few small s = Err FaultKind.TooDeep
+within None l true false small s = Err FaultKind.TooLong
+within None l true true false s = Err FaultKind.LargeRange
+within None (Some l) true true true s = Err l
 
-abbrev pub refused : Bool → ℕ → Move
-refused true n = Err 1
-refused false n = Err n
+abbrev pub refused : Bool → FaultKind → Move
+refused true k = Err FaultKind.BadCharacter
+refused false k = Err k
 
-abbrev pub checked : Bool → ℕ → ℕ → Bool → Bool → Bool → Move → Move
+abbrev pub checked : Bool → Option FaultKind → Option FaultKind → Bool → Bool → Bool → Move → Move
 checked bad e l low few small (Ok s) = within e l low few small s
-checked bad e l low few small (Err n) = refused bad n
+checked bad e l low few small (Err k) = refused bad k
 
 -- what a token makes of a state behind n nodes
 abbrev pub step : ℕ → State → Token → Move
-step n s t = checked (is_bad t) (own_fault t) (named_fault t) (nat_le (mark_at s t).level 32) (nat_le (mark_at s t).nodes (512 - n)) (nat_le (mark_at s t).cells 65536) (move true s t)
+step n s t = checked (is_bad t) (own_fault t) (named_fault t) (nat_le (mark_at s t).level MAX_LEVELS) (nat_le (mark_at s t).nodes (MAX_NODES - n)) (nat_le (mark_at s t).cells MAX_RANGE_CELLS) (move true s t)
 
--- the end of a run: all is read, or the place of a fault and its number
+-- the end of a run: all is read, or a fault and its place
 pub data Outcome : Type 0 where
   accepted : Outcome
-  fault : ℕ → ℕ → Outcome
+  fault : ℕ → FaultKind → Outcome
 
 abbrev pub at_end : ℕ → Move → Outcome
 at_end end (Ok s) = accepted
-at_end end (Err n) = fault end n
+at_end end (Err k) = fault end k
 
 abbrev pub run_on : (State → Outcome) → ℕ → Move → Outcome
 run_on go place (Ok s) = go s
-run_on go place (Err n) = fault place n
+run_on go place (Err k) = fault place k
 
 -- a run over tokens with their places, whose text ends at a place, behind n nodes
 abbrev pub run : List Spot → ℕ → ℕ → State → Outcome

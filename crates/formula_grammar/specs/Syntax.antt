@@ -10,6 +10,7 @@ use Rattle.formula_trees.specs.Expr.{Expr, Exprs, Number, Text, Truth, Ref, Rang
 use Rattle.formula_trees.specs.declared.functions.Kind.{Kind}
 use Rattle.formula_trees.specs.declared.functions.Kind.TheVariants.{Plain, Place, Many, Exact}
 use Rattle.formula_trees.specs.Functions.{kind_of, enough, takes_more}
+use Rattle.formula_trees.specs.declared.levels.TheConstants.{COMPARISON_LEVEL, SUM_LEVEL, TERM_LEVEL}
 use Rattle.formula_trees.specs.Sound.{op_level}
 use Rattle.formula_tokens.specs.declared.token.Coordinate.{Coordinate}
 use Rattle.formula_tokens.specs.declared.token.Literal.{Literal}
@@ -158,15 +159,15 @@ counted true b = IsTrue b
 abbrev mutual
   pub Fits : Bool → Expression → Type 0
   Fits strict (only_sum s) = SumsFit strict s
-  Fits strict (compare e op s) = Fits strict e × (op_level op ≡ 1) × SumsFit strict s
+  Fits strict (compare e op s) = Fits strict e × (op_level op ≡ COMPARISON_LEVEL) × SumsFit strict s
 
   pub SumsFit : Bool → Sums → Type 0
   SumsFit strict (only_term t) = TermFits strict t
-  SumsFit strict (add s op t) = SumsFit strict s × (op_level op ≡ 2) × TermFits strict t
+  SumsFit strict (add s op t) = SumsFit strict s × (op_level op ≡ SUM_LEVEL) × TermFits strict t
 
   pub TermFits : Bool → Term → Type 0
   TermFits strict (only_signed s) = SignedFits strict s
-  TermFits strict (multiply t op s) = TermFits strict t × (op_level op ≡ 3) × SignedFits strict s
+  TermFits strict (multiply t op s) = TermFits strict t × (op_level op ≡ TERM_LEVEL) × SignedFits strict s
 
   pub SignedFits : Bool → Signed → Type 0
   SignedFits strict (plain p) = PrimaryFits strict p

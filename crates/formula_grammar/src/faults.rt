@@ -1,70 +1,141 @@
-//! What is wrong with a token by itself, and what references name.
+//! What may be wrong with a formula, and what is wrong with a token by itself.
 
-ghost use Rattle.std.specs.Prelude.{◌≡◌, ◌≢◌, ◌≤◌, ◌<◌, IfSome, IfNone, nat_lt};
-ghost use Rattle.cell_values.specs.Addresses.{IsOnSheet};
-ghost use Rattle.formula_trees.specs.Sound.{op_level};
-ghost use Rattle.formula_trees.specs.Expr.{expr_of};
+ghost use Rattle.std.specs.Prelude.{◌≡◌};
+ghost use Rattle.formula_grammar.specs.FaultKinds.{number_of};
 ghost use Rattle.formula_grammar.specs.Fault.{is_inside, own_fault, named_fault, corner_fault, word_fault, literal_fault};
-ghost use Rattle.formula_grammar.specs.Rest.{misfit, token_level, sign_token};
-ghost use Rattle.formula_grammar.specs.Syntax.{cells_between, length_between, literal_meaning, part, reference_at};
+ghost use Rattle.formula_grammar.specs.Rest.{misfit};
 
-use cell_values::{Addr, LAST_COLUMN, LAST_ROW, MAX_RANGE_CELLS};
-use formula_tokens::{Coordinate, Corner, Literal, Token, Word};
-use formula_trees::levels::op_level;
-use formula_trees::{Op, Part, Reference, Sign, Tree};
+use cell_values::{LAST_COLUMN, LAST_ROW};
+use formula_tokens::{Corner, Literal, Token, Word};
+use std::alloc::AllocFailed;
 
-/// The number of the line that speaks of a token by itself, or 0.
-pub fn own_fault(token: Token) -> u8
+/// What is wrong with a formula.
+#[derive(Clone, Copy, Debug, PartialEq, Eq)]
+pub enum FaultKind {
+    /// A character that begins no token.
+    BadCharacter,
+    /// A token that cannot stand where it is.
+    Misplaced,
+    /// A name that the language does not have.
+    UnknownName,
+    /// A number above the greatest.
+    HugeNumber,
+    /// A call with too few or too many arguments.
+    ArgumentCount,
+    /// The 33rd level that is open at once.
+    TooDeep,
+    /// The 513th node, or more than 1,024 bytes.
+    TooLong,
+    /// A range of more than 65,536 cells.
+    LargeRange,
+    /// A prefix that names no sheet.
+    UnknownSheet,
+    /// A reference outside the sheet.
+    OutsideSheet,
+}
+
+impl FaultKind {
+    /// The number by which it is told, from 1 to 10. Of several at one token the least is told.
+    pub fn number(self) -> u8
+        ensures { result ≡ number_of self }
+    {
+        match self {
+            FaultKind::BadCharacter => 1,
+            FaultKind::Misplaced => 2,
+            FaultKind::UnknownName => 3,
+            FaultKind::HugeNumber => 4,
+            FaultKind::ArgumentCount => 5,
+            FaultKind::TooDeep => 6,
+            FaultKind::TooLong => 7,
+            FaultKind::LargeRange => 8,
+            FaultKind::UnknownSheet => 9,
+            FaultKind::OutsideSheet => 10,
+        }
+    }
+}
+
+/// Why a formula is not read.
+#[derive(Clone, Copy, Debug, PartialEq, Eq)]
+pub enum FormulaFault {
+    /// The first fault: the place in bytes from 0 at the `=`, and what is wrong there.
+    Bad { place: u32, kind: FaultKind },
+    OutOfMemory,
+}
+
+impl<T: Drop> From<AllocFailed<T>> for FormulaFault {
+    ghost use Rattle.formula_grammar.specs.declared.faults.FormulaFault.TheVariants.{OutOfMemory};
+
+    ghost from_gives = { λ _ e. e ≡ OutOfMemory };
+
+    fn from(_e: AllocFailed<T>) -> FormulaFault {
+        FormulaFault::OutOfMemory
+    }
+}
+
+/// What is wrong with a token by itself.
+pub(crate) fn own_fault(token: Token) -> Option<FaultKind>
     ensures { result ≡ own_fault token }
 {
     match token {
-        Token::BadCharacter => 1,
+        Token::BadCharacter => Some(FaultKind::BadCharacter),
         Token::Reference(word) | Token::SheetReference(word) => word_fault(word),
-        Token::Function(None) => 3,
+        Token::Function(None) => Some(FaultKind::UnknownName),
         Token::Literal(literal) => literal_fault(literal),
-        _ => 0,
+        _ => None,
     }
 }
 
-/// 3 where the word is unknown.
-fn word_fault(word: Word) -> u8
+/// The word may be unknown.
+fn word_fault(word: Word) -> Option<FaultKind>
     ensures { result ≡ word_fault word }
 {
     match word {
-        Word::Cell(_) => 0,
-        Word::Unknown => 3,
+        Word::Cell(_) => None,
+        Word::Unknown => Some(FaultKind::UnknownName),
     }
 }
 
-/// 4 where the number is too large.
-fn literal_fault(literal: Literal) -> u8
+/// The number may be too large.
+fn literal_fault(literal: Literal) -> Option<FaultKind>
     ensures { result ≡ literal_fault literal }
 {
     match literal {
-        Literal::Number(n) => { if n >= 0 { 0 } else { 4 } }
-        Literal::HugeNumber => 4,
-        _ => 0,
+        Literal::Number(n) => {
+            if n >= 0 {
+                None
+            } else {
+                Some(FaultKind::HugeNumber)
+            }
+        }
+        Literal::HugeNumber => Some(FaultKind::HugeNumber),
+        _ => None,
     }
 }
 
-/// The number of the line that speaks of what a token names, or 0.
-pub fn named_fault(token: Token) -> u8
+/// What is wrong with what a token names.
+pub(crate) fn named_fault(token: Token) -> Option<FaultKind>
     ensures { result ≡ named_fault token }
 {
     match token {
         Token::Reference(word) | Token::SheetReference(word) => corner_fault(word),
-        Token::Prefix(None) => 9,
-        _ => 0,
+        Token::Prefix(None) => Some(FaultKind::UnknownSheet),
+        _ => None,
     }
 }
 
-/// 10 where the cell lies outside the sheet.
-fn corner_fault(word: Word) -> u8
+/// The cell may lie outside the sheet.
+fn corner_fault(word: Word) -> Option<FaultKind>
     ensures { result ≡ corner_fault word }
 {
     match word {
-        Word::Cell(corner) => { if is_inside(corner) { 0 } else { 10 } }
-        Word::Unknown => 0,
+        Word::Cell(corner) => {
+            if is_inside(corner) {
+                None
+            } else {
+                Some(FaultKind::OutsideSheet)
+            }
+        }
+        Word::Unknown => None,
     }
 }
 
@@ -78,103 +149,12 @@ fn is_inside(corner: Corner) -> bool
         && corner.row.number <= LAST_ROW
 }
 
-/// The fault of a token that cannot stand where it is.
-pub fn misfit(token: Token) -> u8
+/// What is wrong where a token cannot stand.
+pub(crate) fn misfit(token: Token) -> FaultKind
     ensures { result ≡ misfit token }
 {
     match token {
-        Token::BadCharacter => 1,
-        _ => 2,
-    }
-}
-
-/// The operator of a level that a token is.
-pub fn operator_at(token: Token, level: u8) -> Option<Op>
-    requires { 0 < level }
-    ensures some { IfSome result (λ op. (token ≡ Token.Operator op) × (op_level op ≡ level)) }
-    ensures none { IfNone result (token_level token ≢ level) }
-{
-    let Token::Operator(op) = token else {
-        return None;
-    };
-    if op_level(op) == level {
-        Some(op)
-    } else {
-        None
-    }
-}
-
-/// The sign that a token is where an operand has to come.
-pub fn sign_at(token: Token) -> Option<Sign>
-    ensures { result ≡ sign_token token }
-{
-    match token {
-        Token::Operator(Op::Add) => Some(Sign::Plus),
-        Token::Operator(Op::Sub) => Some(Sign::Minus),
-        _ => None,
-    }
-}
-
-/// The tree of a literal. A number that is too large has none; it is never asked for.
-pub fn literal_tree(literal: Literal) -> Tree
-    ensures { expr_of result ≡ literal_meaning literal }
-{
-    match literal {
-        Literal::Number(n) => Tree::Number(n),
-        Literal::Text(text) => Tree::Text(text),
-        Literal::Truth(b) => Tree::Bool(b),
-        Literal::HugeNumber | Literal::RefError => Tree::RefError,
-    }
-}
-
-/// Whether the range between two corners has too many cells.
-pub fn is_too_large(first: Word, second: Word) -> bool
-    ensures { result ≡ nat_lt 65536 (cells_between first second) }
-{
-    let (Word::Cell(a), Word::Cell(b)) = (first, second) else {
-        return false;
-    };
-    let rows = length_between(a.row.number, b.row.number);
-    let cols = length_between(a.col.number, b.col.number);
-    rows.saturating_mul(cols) > u64::from(MAX_RANGE_CELLS)
-}
-
-/// How many numbers there are from one to the other.
-fn length_between(a: u32, b: u32) -> u64
-    ensures { result ≡ length_between a b }
-{
-    u64::from(a.max(b)) - u64::from(a.min(b)) + 1
-}
-
-/// The reference that a word is, on a sheet or on the formula's own.
-pub fn reference_at(at: Addr, sheet: Option<u8>, word: Word) -> Reference
-    requires inside { corner_fault word ≡ 0 }
-    requires on_sheet { IsOnSheet at }
-    ensures { result ≡ reference_at at sheet word }
-{
-    match word {
-        Word::Cell(corner) => Reference {
-            sheet,
-            col: part(u32::from(at.col), corner.col),
-            row: part(at.row, corner.row),
-        },
-        Word::Unknown => Reference {
-            sheet,
-            col: Part::At(0),
-            row: Part::At(0),
-        },
-    }
-}
-
-/// A column or a row, as it is written in the formula of a cell.
-fn part(own: u32, coordinate: Coordinate) -> Part
-    requires own { own ≤ 65536 }
-    requires written { coordinate.number ≤ 65536 }
-    ensures { result ≡ part own coordinate }
-{
-    if coordinate.absolute {
-        Part::At(coordinate.number)
-    } else {
-        Part::By(coordinate.number as i32 - own as i32)
+        Token::BadCharacter => FaultKind::BadCharacter,
+        _ => FaultKind::Misplaced,
     }
 }

@@ -1,17 +1,17 @@
 //! Formulas: how they are read and printed.
 #![tactic(auto)]
 
-mod faults;
+pub mod faults;
+pub mod formula;
 mod kinds;
 pub mod laws;
-pub mod parser;
+mod meanings;
+mod parser;
 pub mod print;
-pub mod read;
-mod reader;
 
-pub use parser::FormulaFault;
+pub use faults::{FaultKind, FormulaFault};
+pub use formula::read_formula;
 pub use print::print_formula;
-pub use read::read_formula;
 
 #[cfg(test)]
 mod tests;

@@ -234,7 +234,10 @@ fn expect_fault(
     let mut texts = Texts::new(alloc);
     match read_formula(alloc, &formula(alloc, text)?, HERE, &names, &mut texts) {
         Ok(_) => assert!(rt; false, "{text} is read"),
-        Err(fault) => assert_eq!(rt; fault, FormulaFault::Bad { place, number }, "at {text}"),
+        Err(FormulaFault::Bad { place: at, kind }) => {
+            assert_eq!(rt; (at, kind.number()), (place, number), "at {text}");
+        }
+        Err(FormulaFault::OutOfMemory) => assert!(rt; false, "no memory at {text}"),
     }
     Ok(())
 }

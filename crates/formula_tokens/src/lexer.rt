@@ -2,6 +2,7 @@
 
 ghost use Rattle.std.specs.Prelude.{◌≡◌, ◌+◌, ◌<◌, length, ◌≤◌, drop, IfOk, OnOk};
 ghost use Rattle.cell_values.specs.Interned.{KeepsTexts};
+ghost use Rattle.formula_trees.specs.declared.TheConstants.{MAX_FORMULA_BYTES};
 ghost use Rattle.formula_tokens.specs.Lexemes.{literal_from, literal_cut, first_lexeme};
 ghost use Rattle.formula_tokens.specs.Tokens.{spots_of, with_texts, with_literals, literal_of, token_of, TextsAreOf};
 
@@ -18,7 +19,7 @@ pub fn read_tokens(
     sheets: &SheetNames,
     texts: &mut Texts,
 ) -> Result<Vec<Spot>, AllocError>
-    requires { length text.now ≤ 1024 }
+    requires { length text.now ≤ MAX_FORMULA_BYTES }
     ensures tokens { IfOk result (λ spots. spots.items ≡ spots_of sheets.now texts.new text.now) }
     ensures interned { OnOk result (texts.new ≡ with_literals sheets.now texts.old text.now) }
     ensures there { IfOk result (λ spots. TextsAreOf texts.new spots.items) }
@@ -36,7 +37,7 @@ pub fn read_tokens(
         let read = read_token(alloc, text, place, prefixed, sheets, texts)?;
         spots.push(Spot {
             token: read.token,
-            place,
+            place: place as u32,
         })?;
         if is_bad(read.token) {
             return Ok(spots);

@@ -2,7 +2,7 @@
 
 use crate::{Coordinate, Corner, Literal, Spot, Token, Word, function_name, read_tokens};
 use cell_values::{SheetNames, Texts};
-use formula_trees::Op;
+use formula_trees::{MAX_FORMULA_BYTES, Op};
 use std::alloc::{AllocError, Global};
 use std::test::Fail;
 
@@ -167,7 +167,7 @@ fn reads_tokens(rt: HostRuntime) -> Result<(), Fail> {
         ("\u{e9}", "1:bad"),
     ];
     for (text, tokens) in rows {
-        assert!(rt; text.len() <= 1024);
+        assert!(rt; text.len() <= MAX_FORMULA_BYTES);
         let mut texts = Texts::new(alloc);
         let spots = read_tokens(alloc, text, &sheets, &mut texts)?;
         assert_eq!(rt; write_spots(alloc, &spots)?.as_str(), tokens, "{text}");

@@ -68,5 +68,5 @@ pub enum Token {
 #[derive(Clone, Copy, Debug, PartialEq, Eq)]
 pub struct Spot {
     pub token: Token,
-    pub place: usize,
+    pub place: u32,
 }

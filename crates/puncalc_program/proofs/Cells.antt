@@ -4,6 +4,7 @@ use Rattle.std.proofs.lemmas.Bool.{and_parts, leb-true}
 use Rattle.std.proofs.lemmas.List.{length-append}
 use Rattle.std.specs.List.{enumerate_from, flat_map}
 use Rattle.std.specs.Str.{bytes_eq, is_utf8}
+use Rattle.cell_values.specs.declared.TheConstants.{MAX_BOOK_CELLS}
 use Rattle.cell_values.specs.declared.address.Addr.{Addr}
 use Rattle.cell_values.specs.declared.fields.Raw.{Raw}
 use Rattle.cell_values.specs.Addresses.{IsBefore, IsOnSheet}
@@ -14,7 +15,8 @@ use Rattle.cell_values.proofs.Numbering.{number_is_there}
 use Rattle.sheet_csv.specs.declared.reading.SheetFault.{SheetFault}
 use Rattle.sheet_csv.specs.Sheet.{Field, Sheet, row_fields, fields_from, sheet_fields, cell_at, is_empty, is_in_sheet, fault_of, or_first, room_after, first_fault, with_field, cells_of}
 use Rattle.puncalc_program.specs.Faults.{IsFormulaText}
-use Rattle.puncalc_program.specs.Ordered.{IsBeforeCells, CellsInOrder, CellsFit, AreSheetCells}
+use Rattle.cell_values.specs.Order.{addresses, InOrder, IsBeforeAll}
+use Rattle.puncalc_program.specs.Ordered.{CellsFit, AreSheetCells}
 
 -- by row, then column
 abbrev Below : ℕ → ℕ → ℕ → ℕ → Type 0
@@ -61,7 +63,7 @@ EndBefore r c (x ∷ xs) = ((x.0.sheet ≡ 0) × (Below x.0.row x.0.col r c ⊎ 
 
 pub record Good (r c : ℕ) (s : Sheet) : Type 0 where
   pub before : EndBefore r c s.1
-  pub in_order : CellsInOrder s.1
+  pub in_order : InOrder (addresses s.1)
   pub fit : CellsFit s.0 s.1
 
 reach : (x y r c r' c' : ℕ) → Below x y r c ⊎ ((x ≡ r) × (y ≡ c)) → Below r c r' c' → Below x y r' c'
@@ -77,11 +79,11 @@ is_before : (a : Addr) (r' c' : ℕ) → a.sheet ≡ 0 → Below a.row a.col r' 
 is_before a r' c' s (inl h) = inr (s, inl h)
 is_before a r' c' s (inr (e, h)) = inr (s, inr (e, h))
 
-before_snoc : (a : Addr) (xs : List (Addr × Raw)) (x : Addr × Raw) → IsBeforeCells a xs → IsBefore a x.0 → IsBeforeCells a (xs ++ x ∷ [])
+before_snoc : (a : Addr) (xs : List (Addr × Raw)) (x : Addr × Raw) → IsBeforeAll a (addresses xs) → IsBefore a x.0 → IsBeforeAll a (addresses (xs ++ x ∷ []))
 before_snoc a [] x h k = (k, tt)
 before_snoc a (y ∷ ys) x (h, hs) k = (h, before_snoc a ys x hs k)
 
-order_more : (r c r' c' : ℕ) (xs : List (Addr × Raw)) (raw : Raw) → Below r c r' c' → EndBefore r c xs → CellsInOrder xs → CellsInOrder (xs ++ (record { sheet = 0; row = r'; col = c' }, raw) ∷ [])
+order_more : (r c r' c' : ℕ) (xs : List (Addr × Raw)) (raw : Raw) → Below r c r' c' → EndBefore r c xs → InOrder (addresses xs) → InOrder (addresses (xs ++ (record { sheet = 0; row = r'; col = c' }, raw) ∷ []))
 order_more r c r' c' [] raw k h o = (tt, tt)
 order_more r c r' c' (x ∷ xs) raw k ((s, h), hs) (o, os) =
     (before_snoc x.0 xs (record { sheet = 0; row = r'; col = c' }, raw) o (is_before x.0 r' c' s (reach x.0.row x.0.col r c r' c' h k)), order_more r c r' c' xs raw k hs os)
@@ -191,7 +193,7 @@ good_fields (f ∷ rest) room r c s (k, rf, cf, h) n g =
         (more f.row f.col ((raw_of s.0 f.bytes).0, s.1 ++ (cell_at 0 f, (raw_of s.0 f.bytes).1) ∷ []) h later (good_more r c f s k rf cf rt ct g))
 
 -- the cells of a sheet without a fault
-pub sheet_cells : (bytes : List ℕ) (ts : Texts) (cells : List (Addr × Raw)) → first_fault 200000 (sheet_fields bytes) ≡ None → (ts, cells) ≡ cells_of 0 [] (sheet_fields bytes) → AreSheetCells ts cells
+pub sheet_cells : (bytes : List ℕ) (ts : Texts) (cells : List (Addr × Raw)) → first_fault MAX_BOOK_CELLS (sheet_fields bytes) ≡ None → (ts, cells) ≡ cells_of 0 [] (sheet_fields bytes) → AreSheetCells ts cells
 sheet_cells bytes ts cells n e =
     subst (λ (s : Sheet). AreSheetCells s.0 s.1) (sym e)
     (good_fields (sheet_fields bytes) 200000 0 0 ([], []) (fields_chain _) n (record { before = tt; in_order = tt; fit = tt }))

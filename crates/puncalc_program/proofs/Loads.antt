@@ -1,5 +1,6 @@
 -- A book that is loaded cell by cell.
 use Rattle.std.proofs.Common.{◌≡◌, ◌≢◌, ℕ, ◌<◌, ◌≤◌, ◌⊎◌, inl, inr, List, [], ◌∷◌, ◌++◌, length, take, min, max, arith, Option, Some, Ok, refl, sym, subst, ap, ◌∙◌, cond, eqb, fold}
+use Rattle.cell_values.specs.declared.TheConstants.{MAX_BOOK_CELLS}
 use Rattle.cell_values.specs.declared.address.Addr.{Addr}
 use Rattle.cell_values.specs.declared.fields.Raw.{Raw}
 use Rattle.cell_values.specs.Addresses.{IsOnSheet}
@@ -69,7 +70,7 @@ loaded_push b rows columns rows' columns' at c cells h first on t e p q =
         subst (λ (k : ℕ). IsLoaded (record { cells = cs'; texts = ts }) m' k) q (subst (λ (k : ℕ). IsLoaded (record { cells = cs'; texts = ts }) k n) p (subst (λ (xs : List (Addr × Content)). IsLoaded (record { cells = xs; texts = ts }) m n) e h))
 
 -- the fault of a sheet is its refusal
-pub refused_sheet : (fault : SheetFault) (bytes : List ℕ) → (fault ≡ SheetFault.OutOfMemory) ⊎ (first_fault 200000 (sheet_fields bytes) ≡ Some fault) →
+pub refused_sheet : (fault : SheetFault) (bytes : List ℕ) → (fault ≡ SheetFault.OutOfMemory) ⊎ (first_fault MAX_BOOK_CELLS (sheet_fields bytes) ≡ Some fault) →
     (read : Reading) → IsLoadFault (load_fault_of fault) (loaded read bytes)
 unfolding loaded
 refused_sheet SheetFault.OutOfMemory bytes h read = tt

@@ -3,72 +3,47 @@ use Rattle.std.proofs.Common.{◌≡◌, ℕ, ◌⊎◌, inl, inr, List, [], ◌
 use Rattle.std.specs.Ordering.{ordering_then}
 use Rattle.std.specs.Map.{lookup}
 use Rattle.std.specs.BTreeMap.{BTreeMap, Updates}
-use Rattle.cell_values.specs.contracts.address.AddrOrd.TheImpl as addr_ord
 use Rattle.cell_values.specs.declared.address.Addr.{Addr}
 use Rattle.cell_values.specs.declared.values.Shown.{Shown}
 use Rattle.cell_values.specs.declared.values.Value.{Value}
 use Rattle.cell_values.specs.Addresses.{same_addr}
-use Rattle.cell_values.specs.ShownText.{IsShownOf, IsValueOf}
+use Rattle.cell_values.specs.Order.{entry_at}
+use Rattle.cell_values.specs.Values.{IsShownOf, IsValueOf}
+use Rattle.cell_values.proofs.Order.{cmp, lookup_is, same_cmp, same_addr-refl, same_addr-sym, same_addr-true}
 use Rattle.cell_values.specs.Texts.{Texts}
 use Rattle.formula_trees.specs.Expr.{Expr}
-use Rattle.demand_spec.specs.Book.{Book, Content, own, own_of, shown, formulas, formula_at, cell_in, shown_from, finished, returns}
+use Rattle.demand_spec.specs.Book.{Book, Content, own, own_of, shown, formulas, formula_at, shown_from, finished, period}
 use Rattle.demand_spec.specs.Laws.{In}
 use Rattle.demand_spec.specs.Listed.{all_shown, shown_over, AreCellsOf, IsContentOf}
-use Rattle.builtin_functions.specs.Tables.{IsValueOf as IsOperandOf}
-use Rattle.demand_spec.proofs.Texts.{finished_text}
-use Rattle.demand_spec.proofs.Rounds.{same_addr-true, same_addr-refl, in_formulas}
-use Rattle.puncalc_program.specs.Recalculated.{result_in, result_or, IsLoaded, IsRecalculated}
-
--- the order of addresses finds the same address
-
-is_eq-then : (o p : Ordering) → is_eq (ordering_then o p) ≡ (is_eq o && is_eq p)
-is_eq-then Less p = refl
-is_eq-then Equal p = refl
-is_eq-then Greater p = refl
-
-is_eq-nat_cmp : (m n : ℕ) → is_eq (nat_cmp m n) ≡ eqb m n
-is_eq-nat_cmp m n = grind arith
-
-same_cmp : (a b : Addr) → is_eq ((addr_ord.ghosts).cmp a b) ≡ same_addr a b
-same_cmp a b =
-    is_eq-then (nat_cmp a.sheet b.sheet) (ordering_then (nat_cmp a.row b.row) (nat_cmp a.col b.col))
-    ∙ (λ i. is_eq-nat_cmp a.sheet b.sheet i && is_eq-then (nat_cmp a.row b.row) (nat_cmp a.col b.col) i)
-    ∙ (λ i. eqb a.sheet b.sheet && (is_eq-nat_cmp a.row b.row i && is_eq-nat_cmp a.col b.col i))
-
-eqb-sym : (m n : ℕ) → eqb m n ≡ eqb n m
-eqb-sym m n = grind arith
-
-same_addr-sym : (a b : Addr) → same_addr a b ≡ same_addr b a
-same_addr-sym a b i = eqb-sym a.sheet b.sheet i && (eqb-sym a.row b.row i && eqb-sym a.col b.col i)
-
-pub result_is : (es : List (Addr × Shown)) (a : Addr) → lookup (λ k. is_eq ((addr_ord.ghosts).cmp a k)) es ≡ result_in es a
-result_is [] a = refl
-result_is (e ∷ es) a = λ i. cond (same_cmp a e.0 i) (Some e.1) (result_is es a i)
+use Rattle.demand_spec.proofs.Results.{shows_own, shows_its_texts}
+use Rattle.demand_spec.proofs.Texts.{content_text}
+use Rattle.demand_spec.proofs.Rounds.{in_formulas}
+use Rattle.puncalc_program.specs.Recalculated.{result_or, IsLoaded, IsRecalculated}
 
 -- a result that is inserted stands before the others
-pub inserted : (m n : BTreeMap Addr Shown) (k : Addr) (v : Shown) (rest : List (Addr × Shown)) → Updates ((addr_ord.ghosts).cmp) m n k (Some v) →
-    ((a : Addr) → result_in m.entries a ≡ result_in rest a) → (a : Addr) → result_in n.entries a ≡ result_in ((k, v) ∷ rest) a
+pub inserted : (m n : BTreeMap Addr Shown) (k : Addr) (v : Shown) (rest : List (Addr × Shown)) → Updates (cmp) m n k (Some v) →
+    ((a : Addr) → entry_at m.entries a ≡ entry_at rest a) → (a : Addr) → entry_at n.entries a ≡ entry_at ((k, v) ∷ rest) a
 inserted m n k v rest u h a =
-    sym (result_is n.entries a) ∙ u.0 a
-    ∙ (λ i. cond ((same_cmp k a ∙ same_addr-sym k a) i) (Some v) ((result_is m.entries a ∙ h a) i))
+    sym (lookup_is n.entries a) ∙ u.0 a
+    ∙ (λ i. cond ((same_cmp k a ∙ same_addr-sym k a) i) (Some v) ((lookup_is m.entries a ∙ h a) i))
 
 -- the same of a list's end, one longer
 pub inserted_next : (m n : BTreeMap Addr Shown) (k : Addr) (v : Shown) (xs : List (Addr × Shown)) (left : ℕ) (d : Addr × Shown) → left < length xs → (k, v) ≡ get_or xs left d →
-    Updates ((addr_ord.ghosts).cmp) m n k (Some v) → ((a : Addr) → result_in m.entries a ≡ result_in (drop (suc left) xs) a) → (a : Addr) → result_in n.entries a ≡ result_in (drop left xs) a
+    Updates (cmp) m n k (Some v) → ((a : Addr) → entry_at m.entries a ≡ entry_at (drop (suc left) xs) a) → (a : Addr) → entry_at n.entries a ≡ entry_at (drop left xs) a
 inserted_next m n k v xs left d low e u h a =
     inserted m n k v (drop (suc left) xs) u h a
-    ∙ ap (λ ys. result_in ys a) (ap (λ x. x ∷ drop (suc left) xs) e ∙ sym (drop-cons xs left d low))
+    ∙ ap (λ ys. entry_at ys a) (ap (λ x. x ∷ drop (suc left) xs) e ∙ sym (drop-cons xs left d low))
 
 -- each result of the list is what its cell shows
-found : (b : Book) (cs : List Addr) (a : Addr) → (result_in (shown_over b cs) a ≡ Some (shown b a)) ⊎ ((result_in (shown_over b cs) a ≡ None) × (In a cs → ⊥))
+found : (b : Book) (cs : List Addr) (a : Addr) → (entry_at (shown_over b cs) a ≡ Some (shown b a)) ⊎ ((entry_at (shown_over b cs) a ≡ None) × (In a cs → ⊥))
 found b [] a = inr (refl, λ h. h)
 found b (c ∷ rest) a = go (same_addr a c) refl (found b rest a)
   where
-    go : (t : Bool) → same_addr a c ≡ t → (result_in (shown_over b rest) a ≡ Some (shown b a)) ⊎ ((result_in (shown_over b rest) a ≡ None) × (In a rest → ⊥)) →
-        (result_in (shown_over b (c ∷ rest)) a ≡ Some (shown b a)) ⊎ ((result_in (shown_over b (c ∷ rest)) a ≡ None) × (In a (c ∷ rest) → ⊥))
-    go true e r = inl (ap (λ t. cond t (Some (shown b c)) (result_in (shown_over b rest) a)) e ∙ ap (λ x. Some (shown b x)) (sym (same_addr-true a c e)))
-    go false e (inl r) = inl (ap (λ t. cond t (Some (shown b c)) (result_in (shown_over b rest) a)) e ∙ r)
-    go false e (inr (r, out)) = inr (ap (λ t. cond t (Some (shown b c)) (result_in (shown_over b rest) a)) e ∙ r, apart)
+    go : (t : Bool) → same_addr a c ≡ t → (entry_at (shown_over b rest) a ≡ Some (shown b a)) ⊎ ((entry_at (shown_over b rest) a ≡ None) × (In a rest → ⊥)) →
+        (entry_at (shown_over b (c ∷ rest)) a ≡ Some (shown b a)) ⊎ ((entry_at (shown_over b (c ∷ rest)) a ≡ None) × (In a (c ∷ rest) → ⊥))
+    go true e r = inl (ap (λ t. cond t (Some (shown b c)) (entry_at (shown_over b rest) a)) e ∙ ap (λ x. Some (shown b x)) (sym (same_addr-true a c e)))
+    go false e (inl r) = inl (ap (λ t. cond t (Some (shown b c)) (entry_at (shown_over b rest) a)) e ∙ r)
+    go false e (inr (r, out)) = inr (ap (λ t. cond t (Some (shown b c)) (entry_at (shown_over b rest) a)) e ∙ r, apart)
       where
         apart : In a (c ∷ rest) → ⊥
         apart (inl p) = let same : same_addr a c ≡ true = ap (same_addr a) (sym p) ∙ same_addr-refl a in cc
@@ -82,62 +57,20 @@ unlisted b a out = go (formula_at b a) refl
     go None e = e
     go (Some t) e = absurd (out (in_formulas b a t e))
 
-own_shown : (b : Book) (a : Addr) → formula_at b a ≡ None → Shown.Val (own b a) ≡ shown b a
-unfolding shown
-own_shown b a e = ap (λ f. shown_from f (own b a) (finished b a) (returns b (length (formulas b)) a)) (sym e)
-
-pub results_show : (b : Book) (a : Addr) → result_or (result_in (all_shown b) a) (own b a) ≡ shown b a
+pub results_show : (b : Book) (a : Addr) → result_or (entry_at (all_shown b) a) (own b a) ≡ shown b a
 results_show b a = go (found b (formulas b) a)
   where
-    go : (result_in (all_shown b) a ≡ Some (shown b a)) ⊎ ((result_in (all_shown b) a ≡ None) × (In a (formulas b) → ⊥)) → result_or (result_in (all_shown b) a) (own b a) ≡ shown b a
+    go : (entry_at (all_shown b) a ≡ Some (shown b a)) ⊎ ((entry_at (all_shown b) a ≡ None) × (In a (formulas b) → ⊥)) → result_or (entry_at (all_shown b) a) (own b a) ≡ shown b a
     go (inl e) = ap (λ o. result_or o (own b a)) e
-    go (inr (e, out)) = ap (λ o. result_or o (own b a)) e ∙ own_shown b a (unlisted b a out)
-
--- text numbers
-
-content_text : (ts : Texts) (x : Content) → IsContentOf ts x → IsValueOf ts (own_of (Some x))
-content_text ts (Content.Number n) k = tt
-content_text ts (Content.Text t) k = k
-content_text ts (Content.Truth t) k = tt
-content_text ts (Content.Formula t) k = tt
-
-own_text : (ts : Texts) (cs : List (Addr × Content)) (a : Addr) → AreCellsOf ts cs → IsValueOf ts (own_of (cell_in cs a))
-own_text ts [] a h = tt
-own_text ts (c ∷ rest) a (h, hs) = go (same_addr a c.0) (content_text ts c.1 h) (own_text ts rest a hs)
-  where
-    go : (s : Bool) → IsValueOf ts (own_of (Some c.1)) → IsValueOf ts (own_of (cell_in rest a)) → IsValueOf ts (own_of (cond s (Some c.1) (cell_in rest a)))
-    go true k r = k
-    go false k r = r
-
-value_own : (b : Book) (a : Addr) → AreCellsOf b.texts b.cells → IsValueOf b.texts (own b a)
-unfolding own
-value_own b a cs = own_text b.texts b.cells a cs
-
-value_text : (ts : Texts) (v : Value) → IsOperandOf ts v → IsValueOf ts v
-value_text ts (Value.Number n) h = tt
-value_text ts (Value.Text t) h = h
-value_text ts (Value.Bool b) h = tt
-value_text ts Value.Blank h = tt
-value_text ts (Value.Error c) h = tt
-
--- what a cell shows has a text number of the book's texts
-shown_text : (b : Book) (a : Addr) → AreCellsOf b.texts b.cells → IsShownOf b.texts (shown b a)
-unfolding shown
-shown_text b a cs = go (formula_at b a) (finished b a) (returns b (length (formulas b)) a) (λ v e. value_text b.texts v (finished_text b.cells b.texts (finished b) cs refl a v e))
-  where
-    go : (f : Option Expr) (o : Option Value) (r : Bool) → ((v : Value) → o ≡ Some v → IsValueOf b.texts v) → IsShownOf b.texts (shown_from f (own b a) o r)
-    go None o r h = value_own b a cs
-    go (Some t) (Some w) r h = h w refl
-    go (Some t) None true h = tt
-    go (Some t) None false h = tt
+    go (inr (e, out)) = ap (λ o. result_or o (own b a)) e ∙ sym (shows_own b a (unlisted b a out))
 
 pub recalculated : (b : Book) (rows columns : ℕ) (xs results : List (Addr × Shown)) → IsLoaded b rows columns → xs ≡ all_shown b →
-    ((a : Addr) → result_in results a ≡ result_in xs a) → IsRecalculated b results rows columns
+    ((a : Addr) → entry_at results a ≡ entry_at xs a) → IsRecalculated b results rows columns
 recalculated b rows columns xs results h e same = record {
   shows = show;
-  texts = λ a. subst (IsShownOf b.texts) (sym (show a)) (shown_text b a h.texts);
+  texts = λ a. subst (IsShownOf b.texts) (sym (show a)) (shows_its_texts b (λ x. content_text b.texts b.cells x h.texts) a);
   extent = h.extent;
 }
   where
-    show : (a : Addr) → result_or (result_in results a) (own b a) ≡ shown b a
-    show a = ap (λ o. result_or o (own b a)) (same a ∙ ap (λ ys. result_in ys a) e) ∙ results_show b a
+    show : (a : Addr) → result_or (entry_at results a) (own b a) ≡ shown b a
+    show a = ap (λ o. result_or o (own b a)) (same a ∙ ap (λ ys. entry_at ys a) e) ∙ results_show b a

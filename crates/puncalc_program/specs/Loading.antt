@@ -1,5 +1,6 @@
 -- How a sheet becomes a book.
 use Rattle.std.specs.Prelude.{ℕ, List, [], ◌∷◌, Option, Some, None, Result, Ok, Err, codes}
+use Rattle.cell_values.specs.declared.TheConstants.{MAX_BOOK_CELLS}
 use Rattle.cell_values.specs.declared.address.Addr.{Addr}
 use Rattle.cell_values.specs.declared.fields.Raw.{Raw}
 use Rattle.cell_values.specs.Texts.{Texts}
@@ -68,4 +69,4 @@ unless_refused None b = b
 
 -- the book of a sheet's bytes, or the first refusal: that of a field, and then that of a formula
 unfoldable pub loaded : Reading → List ℕ → Result Book Refusal
-loaded read bytes = unless_refused (first_fault 200000 (sheet_fields bytes)) (book_of_sheet read (cells_of 0 [] (sheet_fields bytes)))
+loaded read bytes = unless_refused (first_fault MAX_BOOK_CELLS (sheet_fields bytes)) (book_of_sheet read (cells_of 0 [] (sheet_fields bytes)))

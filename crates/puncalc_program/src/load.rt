@@ -1,24 +1,23 @@
 //! A sheet's bytes as a book.
 
-ghost use Rattle.std.specs.Prelude.{◌≡◌, [], Ok, Err, IfOk, IfErr, IfSome, OnOk, MatchResult, option_map};
+ghost use Rattle.std.specs.Prelude.{◌≡◌, ◌<◌, length, [], Ok, Err, IfOk, IfErr, IfSome, OnOk, MatchResult, option_map};
 ghost use Rattle.cell_values.specs.Addresses.{IsOnSheet};
 ghost use Rattle.cell_values.specs.Fields.{IsRawOf};
 ghost use Rattle.cell_values.specs.Interned.{KeepsTexts};
-ghost use Rattle.demand_spec.specs.Listed.{content_of, IsAfterAll, IsContentOf, IsSoundAt};
+ghost use Rattle.cell_values.specs.declared.TheConstants.{MAX_BOOK_CELLS};
+ghost use Rattle.cell_values.specs.Order.{addresses, IsAfterAll};
+ghost use Rattle.demand_spec.specs.Listed.{content_of, IsContentOf, IsSoundAt};
 ghost use Rattle.formula_grammar.specs.Reading.{Reading, IsReading};
 ghost use Rattle.puncalc_program.specs.Loading.{the_names, content_read, loaded};
 ghost use Rattle.puncalc_program.specs.Faults.{AddsField, IsFaultInSheet, IsFaultOfField, IsFieldFault, IsFormulaText, IsLoadFault};
 
 use crate::refusals::{FieldFault, Refusal};
-use cell_values::{Addr, Raw, SheetNames, Texts};
+use cell_values::{Addr, MAX_BOOK_CELLS, Raw, SheetNames, Texts};
 use demand_spec::{Cell, PlainBook};
 use formula_grammar::{FormulaFault, read_formula};
 use sheet_csv::{SheetFault, read_sheet};
 use std::alloc::{AllocError, Global};
 use std::marker::Model;
-
-/// The most cells that are not empty, of all sheets together.
-const MAX_CELLS: u32 = 200_000;
 
 /// Why a sheet gives no book.
 #[derive(Clone, Copy, Debug, PartialEq, Eq)]
@@ -87,7 +86,7 @@ pub(crate) fn load(alloc: Global, bytes: &[u8], sheets: &SheetNames) -> Result<L
     ensures place { IfErr result IsFaultInSheet }
 {
     let mut texts = Texts::new(alloc);
-    let cells = read_sheet(alloc, bytes, 0, MAX_CELLS, &mut texts)?;
+    let cells = read_sheet(alloc, bytes, 0, MAX_BOOK_CELLS, &mut texts)?;
     let mut sheet = Loaded {
         book: PlainBook::new(alloc),
         texts,
@@ -110,7 +109,8 @@ impl Loaded {
         sheets: &SheetNames,
     ) -> Result<(), LoadFault>
         requires names { sheets.now ≡ the_names }
-        requires after { IsAfterAll at self.old.cells }
+        requires room { length self.old.cells < MAX_BOOK_CELLS }
+        requires after { IsAfterAll at (addresses self.old.cells) }
         requires first_sheet { at.sheet ≡ 0 }
         requires on_sheet { IsOnSheet at }
         requires text { IsRawOf self.old.texts raw.now }

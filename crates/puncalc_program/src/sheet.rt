@@ -3,7 +3,8 @@
 ghost use Rattle.std.specs.Prelude.{◌≡◌, ◌<◌, ◌≤◌, IfOk, map, string_bytes, vec_len};
 ghost use Rattle.std.specs.List.{concat};
 ghost use Rattle.cell_values.specs.declared.address.Addr.{Addr};
-ghost use Rattle.puncalc_program.specs.Recalculated.{result_in, result_or};
+ghost use Rattle.cell_values.specs.Order.{entry_at};
+ghost use Rattle.puncalc_program.specs.Recalculated.{result_or};
 ghost use Rattle.puncalc_program.specs.Sheets.{cell_shows, last_column, last_row, row_texts, sheet_row, sheet_rows};
 ghost use Rattle.puncalc_program.specs.Run.{StopsWritingFor, Writes};
 
@@ -63,7 +64,7 @@ impl Loaded {
 
 /// The results by address.
 fn collect(alloc: Global, shown: &[(Addr, Shown)]) -> Result<Results, AllocError>
-    ensures { IfOk result (λ results. (a : Addr) → result_in results.entries a ≡ result_in shown.now a) }
+    ensures { IfOk result (λ results. (a : Addr) → entry_at results.entries a ≡ entry_at shown.now a) }
 {
     let mut results = Results::new(alloc);
     let mut left = shown.len();
@@ -77,7 +78,7 @@ fn collect(alloc: Global, shown: &[(Addr, Shown)]) -> Result<Results, AllocError
 
 /// The result of a cell, if it has one.
 fn result_of(results: &Results, at: Addr) -> Option<Shown>
-    ensures { result ≡ result_in results.now.entries at }
+    ensures { result ≡ entry_at results.now.entries at }
 {
     results.get(&at).copied()
 }

@@ -29,14 +29,18 @@ fn show(alloc: Global, bytes: Vec<u8>) -> Result<(u8, PlainSink), AllocError> {
 const SHEETS: &str = "
     1,=A1+1=>0 1,2|
     1,=A1+1|=>0 1,2|
-    =A1=>0 #CYCLE!|
-    =B1,=C1,=B1=>0 #TOCYCLE!,#CYCLE!,#CYCLE!|
+    =A1=>0 #CYCLE(1)!|
+    =B1,=C1,=B1=>0 #TOCYCLE!,#CYCLE(2)!,#CYCLE(2)!|
     ~=IF(B1=0,7,A1)~,0=>0 7,0|
-    =1/0+B1,=B1=>0 #DIV/0!,#CYCLE!|
-    =B1+1/0,=B1=>0 #TOCYCLE!,#CYCLE!|
-    ~=IFERROR(B1,5)~,=B1=>0 #TOCYCLE!,#CYCLE!|
+    =1/0+B1,=B1=>0 #DIV/0!,#CYCLE(1)!|
+    =B1+1/0,=B1=>0 #TOCYCLE!,#CYCLE(1)!|
+    ~=IFERROR(B1,5)~,=B1=>0 #TOCYCLE!,#CYCLE(1)!|
+    =C1,=A1,=D1,=E1,=B1=>0 #CYCLE(5)!,#CYCLE(5)!,#CYCLE(5)!,#CYCLE(5)!,#CYCLE(5)!|
     ~=INDEX(B1:C1,1,2)~,=A1,3=>0 3,3,3|
-    9223372036854775807,=A1+1=>0 9223372036854775807,#NUM!|
+    9223372036854775807,=A1+1=>0 9223372036854775807,9223372036854775808|
+    170141183460469231731687303715884105727,=A1+1=>0 170141183460469231731687303715884105727,#NUM!|
+    -170141183460469231731687303715884105728,=A1-1,=-A1,=A1/-1=>0 -170141183460469231731687303715884105728,#NUM!,#NUM!,#NUM!|
+    170141183460469231731687303715884105728,=A1=>0 170141183460469231731687303715884105728,170141183460469231731687303715884105728|
     x,=SUM(A1:A2),=COUNT(A1:A2)|5=>0 x,5,1|5,,|
     ~=VLOOKUP(2,A2:B3,2)~,|1,=A1|2,9=>0 9,|1,9|2,9|
     =-7/2,~=MOD(-7,2)~,~=MOD(7,-2)~=>0 -3,1,-1|
@@ -53,7 +57,8 @@ const SHEETS: &str = "
     ==>3 refused Sheet1!A1 at 1: F2|
     1|=B7,=A1+=>3 refused Sheet1!B2 at 4: F2|
     =1+,=2+=>3 refused Sheet1!A1 at 3: F2|
-    =9223372036854775808=>3 refused Sheet1!A1 at 1: F4|
+    =170141183460469231731687303715884105727=>0 170141183460469231731687303715884105727|
+    =170141183460469231731687303715884105728=>3 refused Sheet1!A1 at 1: F4|
     x|~~|y|=>0 x|~~|y|
     1,2|||3|=>0 1,2|3,|
     ~a,b~,~say ~~so~~~|=>0 ~a,b~,~say ~~so~~~|
@@ -63,7 +68,7 @@ const SHEETS: &str = "
 const EXAMPLES: &str = "
     item,planned,spent,left,note|rent,80000,80000,=B2-C2,~=IF(D2<0,~~over~~,~~ok~~)~|food,40000,43250,=B3-C3,~=IF(D3<0,~~over~~,~~ok~~)~|bus,6000,4900,=B4-C4,~=IF(D4<0,~~over~~,~~ok~~)~|savings,15000,15000,=B5-C5,~=IF(D5<0,~~over~~,~~ok~~)~|sum,=SUM(B2:B5),=SUM(C2:C5),=SUM(D2:D5),~=IF(D6<0,~~over~~,~~ok~~)~|largest,=MAX(B2:B5),=MAX(C2:C5),,|percent for rent,=B2*100/B$6,=C2*100/C$6,,|=>0 item,planned,spent,left,note|rent,80000,80000,0,ok|food,40000,43250,-3250,over|bus,6000,4900,1100,ok|savings,15000,15000,0,ok|sum,141000,143150,-2150,over|largest,80000,80000,,|percent for rent,56,55,,|
     day,Ann,Bob,Cyd,,shift,hours|Mon,early,late,night,,early,8|Tue,late,,early,,late,7|Wed,night,early,,,night,9|hours,~=IFERROR(VLOOKUP(B2,$F$2:$G$4,2,FALSE),0)+IFERROR(VLOOKUP(B3,$F$2:$G$4,2,FALSE),0)+IFERROR(VLOOKUP(B4,$F$2:$G$4,2,FALSE),0)~,~=IFERROR(VLOOKUP(C2,$F$2:$G$4,2,FALSE),0)+IFERROR(VLOOKUP(C3,$F$2:$G$4,2,FALSE),0)+IFERROR(VLOOKUP(C4,$F$2:$G$4,2,FALSE),0)~,~=IFERROR(VLOOKUP(D2,$F$2:$G$4,2,FALSE),0)+IFERROR(VLOOKUP(D3,$F$2:$G$4,2,FALSE),0)+IFERROR(VLOOKUP(D4,$F$2:$G$4,2,FALSE),0)~,,,|too much,=B5>20,=C5>20,=D5>20,,,|=>0 day,Ann,Bob,Cyd,,shift,hours|Mon,early,late,night,,early,8|Tue,late,,early,,late,7|Wed,night,early,,,night,9|hours,24,15,17,,,|too much,TRUE,FALSE,FALSE,,,|
-    code,cents,,item,code,count,price|A,250,,pens,A,10,~=VLOOKUP(E2,$A$2:$B$4,2)*F2~|B,1200,,book,B,2,~=VLOOKUP(E3,$A$2:$B$4,2)*F3~|C,90,,lamp,X,1,~=IFERROR(VLOOKUP(E4,$A$2:$B$4,2)*F4,~~no price~~)~|,,,sum,,,=SUM(G2:G4)|,,,discount,,,~=IF(G5>4000,G5/10,0)~|,,,net,,,=G5-G6|,,,shipping,,,~=IF(G9>5000,0,490)~|,,,total,,,=G7+G8|,,,per piece,,,=G9/SUM(F2:F4)|=>0 code,cents,,item,code,count,price|A,250,,pens,A,10,2500|B,1200,,book,B,2,2400|C,90,,lamp,X,1,no price|,,,sum,,,4900|,,,discount,,,490|,,,net,,,4410|,,,shipping,,,#CYCLE!|,,,total,,,#CYCLE!|,,,per piece,,,#TOCYCLE!|
+    code,cents,,item,code,count,price|A,250,,pens,A,10,~=VLOOKUP(E2,$A$2:$B$4,2)*F2~|B,1200,,book,B,2,~=VLOOKUP(E3,$A$2:$B$4,2)*F3~|C,90,,lamp,X,1,~=IFERROR(VLOOKUP(E4,$A$2:$B$4,2)*F4,~~no price~~)~|,,,sum,,,=SUM(G2:G4)|,,,discount,,,~=IF(G5>4000,G5/10,0)~|,,,net,,,=G5-G6|,,,shipping,,,~=IF(G9>5000,0,490)~|,,,total,,,=G7+G8|,,,per piece,,,=G9/SUM(F2:F4)|=>0 code,cents,,item,code,count,price|A,250,,pens,A,10,2500|B,1200,,book,B,2,2400|C,90,,lamp,X,1,no price|,,,sum,,,4900|,,,discount,,,490|,,,net,,,4410|,,,shipping,,,#CYCLE(2)!|,,,total,,,#CYCLE(2)!|,,,per piece,,,#TOCYCLE!|
 ";
 
 /// A sheet of a table as it is read or written.

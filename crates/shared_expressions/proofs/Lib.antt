@@ -3,3 +3,4 @@ pub mod Entries
 pub mod Named
 pub mod Lookup
 pub mod There
+pub mod Depths

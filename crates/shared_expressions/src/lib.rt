@@ -1,7 +1,7 @@
 //! Expressions kept once each: copies of a formula share one expression.
 #![tactic(auto)]
 
-ghost use Rattle.shared_expressions.specs.Laws.{MentionsAreAreas};
+ghost use Rattle.shared_expressions.specs.Laws.{MentionsAreAreas, DepthWithinNodes};
 
 mod areas;
 mod copies;
@@ -18,4 +18,9 @@ pub use pool::Pool;
 /// What a formula mentions is what its areas hold, one after the other.
 pub fn law_mentions_are_areas()
     ensures { MentionsAreAreas }
+{}
+
+/// A formula is no deeper than it has nodes.
+pub fn law_depth_within_nodes()
+    ensures { DepthWithinNodes }
 {}

@@ -21,7 +21,8 @@ use Rattle.workbook_core.specs.declared.Content.{Content as Held}
 use Rattle.workbook_core.specs.declared.edits.EditFault.{EditFault}
 use Rattle.workbook_core.specs.Books.{IsCell, IsKept, MayHold, NamesSheetsBelow}
 use Rattle.workbook_core.specs.Copies.{among, empty_among, SetsAll, IsCopy, CopiesTo, HasNoRoom}
-use Rattle.workbook_core.specs.Edits.{Copy, copied, IsApplied, IsTooLarge, IsCopyFault, IsTooMany}
+use Rattle.demand_spec.specs.Edits.{Copy, copied, IsApplied, IsTooLarge}
+use Rattle.workbook_core.specs.Edits.{IsCopyFault, IsTooMany}
 use Rattle.workbook_core.specs.Held.{held_in, content_in, cells_in}
 use Rattle.workbook_core.proofs.Copied.{among_empty, empty_is_none, empty_is_among}
 use Rattle.workbook_core.proofs.Counting.{more_cells, none_among}

@@ -12,7 +12,7 @@ use Rattle.demand_spec.specs.Book.{Content, cell_in}
 use Rattle.demand_spec.specs.Listed.{InOrder, IsBeforeAll}
 use Rattle.shared_expressions.specs.Trees.{Trees}
 use Rattle.workbook_core.specs.declared.Content.{Content as Held}
-use Rattle.workbook_core.specs.Edits.{Put, IsTooLarge}
+use Rattle.demand_spec.specs.Edits.{Put, IsTooLarge}
 use Rattle.workbook_core.specs.Held.{held_in, content_in, cells_in}
 use Rattle.workbook_core.proofs.Growth.{never_before}
 use Rattle.workbook_core.proofs.Lookups.{held_cells, length-cells_in, same_addr-true, same_addr-refl}

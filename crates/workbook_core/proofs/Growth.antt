@@ -13,7 +13,7 @@ use Rattle.demand_spec.specs.Listed.{InOrder, IsBeforeAll, IsContentOf}
 use Rattle.shared_expressions.specs.Trees.{Trees, KeepsTrees}
 use Rattle.workbook_core.specs.declared.Content.{Content as Held}
 use Rattle.workbook_core.specs.Books.{IsCell, IsKept, MayHold}
-use Rattle.workbook_core.specs.Edits.{Put, IsApplied}
+use Rattle.demand_spec.specs.Edits.{Put, IsApplied}
 use Rattle.workbook_core.specs.Held.{held_in, content_in, cells_in, IsHeldOf, AreOnSheets, SetsHeld}
 use Rattle.workbook_core.proofs.Lookups.{held_cells, length-cells_in, order_same, same_addr-true, same_addr-refl}
 

@@ -10,7 +10,8 @@ use Rattle.shared_expressions.specs.Trees.{Trees, KeepsTrees}
 use Rattle.workbook_core.specs.declared.Content.{Content as Held}
 use Rattle.workbook_core.specs.declared.edits.EditFault.{EditFault}
 use Rattle.workbook_core.specs.Books.{IsKept, MayHold}
-use Rattle.workbook_core.specs.Edits.{Put, IsApplied, IsTooLarge, Puts, IsPutFault, IsThisFault, IsTooMany}
+use Rattle.demand_spec.specs.Edits.{Put, IsApplied, IsTooLarge}
+use Rattle.workbook_core.specs.Edits.{Puts, IsPutFault, IsThisFault, IsTooMany}
 use Rattle.workbook_core.specs.Faults.{edit_fault_of, IsOutOfMemory, IsRead, IsWithoutRoom}
 use Rattle.workbook_core.specs.Held.{held_in, content_in, cells_in, holds_formula, SetsHeld}
 use Rattle.workbook_core.proofs.Counting.{too_large_put}

@@ -8,7 +8,7 @@ use Rattle.demand_spec.specs.Listed.{InOrder, IsSoundAt}
 use Rattle.shared_expressions.specs.Trees.{Trees}
 use Rattle.workbook_core.specs.declared.Content.{Content as Held}
 use Rattle.workbook_core.specs.declared.edits.EditFault.{EditFault}
-use Rattle.workbook_core.specs.Edits.{copied}
+use Rattle.demand_spec.specs.Edits.{copied}
 use Rattle.workbook_core.specs.Held.{held_in, content_in, cells_in, IsHeldOf}
 
 -- the address is one of these

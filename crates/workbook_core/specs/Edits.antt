@@ -1,46 +1,16 @@
--- Edits of a book, a finite map from addresses to cells.
-use Rattle.std.specs.Prelude.{◌≡◌, ℕ, ◌<◌, true, Option, Some, None, cond, List, length}
+-- What fields put into a book, and why an edit fails.
+use Rattle.std.specs.Prelude.{◌≡◌, ℕ, true, Option, Some, None, List}
 use Rattle.cell_values.specs.declared.address.Addr.{Addr}
 use Rattle.cell_values.specs.declared.address.Area.{Area}
 use Rattle.cell_values.specs.declared.fields.Raw.{Raw}
-use Rattle.cell_values.specs.Addresses.{same_addr}
-use Rattle.cell_values.specs.Areas.{is_inside}
 use Rattle.cell_values.specs.Texts.{Texts}
 use Rattle.formula_trees.specs.Expr.{Expr}
-use Rattle.formula_trees.specs.Shifted.{shifted}
 use Rattle.formula_tokens.specs.Tokens.{with_literals}
 use Rattle.formula_tokens.specs.Words.{begins_with}
 use Rattle.formula_grammar.specs.Reading.{Means, HasFault}
-use Rattle.demand_spec.specs.Book.{Content, cell_in}
-use Rattle.demand_spec.specs.Listed.{InOrder}
+use Rattle.demand_spec.specs.Book.{Content}
+use Rattle.demand_spec.specs.Edits.{Cells, Put, Copy, IsTooLarge}
 use Rattle.workbook_core.specs.declared.edits.EditFault.{EditFault}
-
-abbrev pub Cells : Type 0
-Cells = List (Addr × Content)
-
--- one cell gets this content or none, or the cells of an area get what one cell holds
-pub data Edit : Type 0 where
-  Put : Addr → Option Content → Edit
-  Copy : Addr → Area → Edit
-
--- what a cell gets as a copy: a formula is shifted there
-abbrev pub copied : Addr → Option Content → Option Content
-copied to (Some (Content.Formula t)) = Some (Content.Formula (shifted to t))
-copied to held = held
-
--- what stands at an address after the edit
-abbrev pub held_after : Edit → Cells → Addr → Option Content
-held_after (Put at held) old a = cond (same_addr at a) held (cell_in old a)
-held_after (Copy from to) old a = cond (is_inside to a) (copied a (cell_in old from)) (cell_in old a)
-
--- the edit makes the new cells of the old ones
-pub record IsApplied (edit : Edit) (old new : Cells) : Type 0 where
-  pub order : InOrder new
-  pub lookups : (a : Addr) → cell_in new a ≡ held_after edit old a
-
--- after the edit there are more than 200,000 cells
-abbrev pub IsTooLarge : Edit → Cells → Type 0
-IsTooLarge edit old = (new : Cells) → IsApplied edit old new → 200000 < length new
 
 -- what a field puts into a cell: nothing, its value, or the tree that its formula means there
 abbrev pub Puts : List (List ℕ) → Texts → Addr → Raw → Option Content → Type 0

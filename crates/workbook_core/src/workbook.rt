@@ -9,7 +9,8 @@ ghost use Rattle.formula_tokens.specs.Words.{begins_with};
 ghost use Rattle.demand_spec.specs.Book.{Content, cell_in};
 ghost use Rattle.shared_expressions.specs.Trees.{KeepsTrees};
 ghost use Rattle.workbook_core.specs.Books.{IsNextCell, IsLastCell, IsExtent, IsEmptySheet, IsWorkbook};
-ghost use Rattle.workbook_core.specs.Edits.{Put, Copy, IsApplied, IsTooLarge, Puts, with_field, FieldHasFault, IsField, IsPutFault, IsCopyFault, IsThisFault, IsTooMany};
+ghost use Rattle.demand_spec.specs.Edits.{Put, Copy, IsApplied, IsTooLarge};
+ghost use Rattle.workbook_core.specs.Edits.{Puts, with_field, FieldHasFault, IsField, IsPutFault, IsCopyFault, IsThisFault, IsTooMany};
 ghost use Rattle.workbook_core.specs.Faults.{IsFieldFault, IsOutOfMemory, IsRead, IsWithoutRoom};
 ghost use Rattle.workbook_core.specs.Held.{content_in, holds_formula, IsHeldOf, SetsHeld};
 

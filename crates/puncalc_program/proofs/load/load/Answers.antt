@@ -1,5 +1,6 @@
 use Rattle.std.proofs.Common.{◌≡◌, ◌∙◌, ◌<◌, ◌≤◌, sym, subst, drop, length, get_or, List, [], ap, refl, arith}
 use Rattle.std.proofs.lemmas.Result.{err_from_is_err_and}
+use Rattle.cell_values.specs.declared.TheConstants.{MAX_BOOK_CELLS}
 use Rattle.cell_values.specs.declared.address.Addr.{Addr}
 use Rattle.cell_values.specs.declared.fields.Raw.{Raw}
 use Rattle.sheet_csv.specs.Sheet.{sheet_fields, cells_of}
@@ -13,6 +14,11 @@ loop-at-init c =
     fills_start c.read_sheet.new.texts c.deref-at-items.result.now _ c.new.ensures refl
     (subst (λ (cs : List (Addr × Raw)). AreSheetCells c.read_sheet.new.texts cs) (sym c.deref-at-items.ensures.value)
     (sheet_cells c.args.bytes.now c.read_sheet.new.texts c.in_ok-cells.cells.items c.in_ok-cells.ensures.no_fault (c.in_ok-cells.ensures.cells ∙ ap (λ ts. cells_of 0 ts (sheet_fields c.args.bytes.now)) c.new-texts.ensures)))
+    (subst (λ (cs : List (Addr × Raw)). length cs ≤ MAX_BOOK_CELLS) (sym c.deref-at-items.ensures.value) c.in_ok-cells.ensures.within)
+
+pub add-requires-clause-room : goal.add-requires-clause-room
+add-requires-clause-room c =
+    (next_cell c.read_sheet.new.texts c.deref-at-items.result.now c.loop-at.at-index c.loop-at-item.result c.loop-at.sheet c.loop-at-test.true c.loop-at-item.is c.loop-at.invariant).room
 
 pub add-requires-clause-after : goal.add-requires-clause-after
 add-requires-clause-after c =

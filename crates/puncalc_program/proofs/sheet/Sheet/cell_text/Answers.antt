@@ -1,6 +1,7 @@
 use Rattle.std.proofs.Common.{◌≡◌, ◌∙◌, sym, subst, IfOk, string_bytes}
 use Rattle.cell_values.specs.declared.values.Shown.{Shown}
-use Rattle.cell_values.specs.ShownText.{IsShownOf, shown_text}
+use Rattle.cell_values.specs.ShownText.{shown_text}
+use Rattle.cell_values.specs.Values.{IsShownOf}
 use Rattle.demand_spec.specs.Book.{Book, own}
 use Rattle.puncalc_program.specs.Recalculated.{result_or}
 use Rattle.puncalc_program.specs.Sheets.{cell_shows}

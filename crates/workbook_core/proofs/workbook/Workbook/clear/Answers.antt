@@ -1,5 +1,5 @@
 use Rattle.std.proofs.Common.{None, subst, arith}
-use Rattle.workbook_core.specs.Edits.{Put, IsApplied}
+use Rattle.demand_spec.specs.Edits.{Put, IsApplied}
 use Rattle.workbook_core.specs.Held.{cells_in}
 use Rattle.workbook_core.proofs.Growth.{kept_set, applied_set}
 use Rattle.workbook_core.proofs.Lookups.{length-cells_in}

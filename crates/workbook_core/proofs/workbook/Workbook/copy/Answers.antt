@@ -2,7 +2,8 @@ use Rattle.std.proofs.Common.{◌≡◌, ◌<◌, [], None, IfErr, OnOk, length,
 use Rattle.std.proofs.lemmas.Result.{on_ok_weaker, on_err_weaker, IfErr-weaker, MatchResult-from_both}
 use Rattle.cell_values.specs.Areas.{walk}
 use Rattle.workbook_core.specs.Copies.{SetsAll, CopiesTo, HasNoRoom}
-use Rattle.workbook_core.specs.Edits.{Copy, IsApplied, IsTooLarge, IsCopyFault, IsTooMany}
+use Rattle.demand_spec.specs.Edits.{Copy, IsApplied, IsTooLarge}
+use Rattle.workbook_core.specs.Edits.{IsCopyFault, IsTooMany}
 use Rattle.workbook_core.specs.Held.{content_in, cells_in}
 use Rattle.workbook_core.proofs.Books.{copies_kept_on, copies_applied, copies_fault, copies_large, cleared_applied, cleared_kept, too_many_from_copies}
 use Rattle.workbook_core.proofs.Growth.{held_cell, kept_cells}

@@ -1,6 +1,7 @@
 use Rattle.std.proofs.Common.{◌≡◌, Some, None, IfErr, OnOk, option_map, subst, sym, ap, ◌∙◌, rules, arith}
 use Rattle.std.proofs.lemmas.Result.{on_ok_weaker, on_err_weaker, IfErr-weaker, MatchResult-from_both}
-use Rattle.workbook_core.specs.Edits.{Put, IsApplied, IsTooLarge, Puts, IsPutFault, IsTooMany}
+use Rattle.demand_spec.specs.Edits.{Put, IsApplied, IsTooLarge}
+use Rattle.workbook_core.specs.Edits.{Puts, IsPutFault, IsTooMany}
 use Rattle.workbook_core.specs.Faults.{IsRead, IsWithoutRoom}
 use Rattle.workbook_core.specs.Held.{content_in, cells_in, SetsHeld}
 use Rattle.workbook_core.proofs.Growth.{kept_grows, kept_cells, kept_set}
