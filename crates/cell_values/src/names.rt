@@ -1,6 +1,6 @@
 //! The names of the sheets.
 
-ghost use Rattle.std.specs.Prelude.{◌≡◌, ◌==◌, ◌||◌, ℕ, ◌+◌, ◌<◌, ◌≤◌, true, false, List, [], ◌∷◌, ◌++◌, length, map, position, slice_index_or, IfOk, IfErr, OnOk, Option, Some, None, string_bytes};
+ghost use Rattle.std.specs.Prelude.{◌≡◌, ◌==◌, ◌||◌, ℕ, ◌+◌, ◌<◌, ◌≤◌, true, false, List, [], ◌∷◌, ◌++◌, length, map, position, slice_index_or, IfOk, IfErr, IfSome, OnOk, Option, Some, None, string_bytes};
 ghost use Rattle.std.specs.List.{list_all};
 ghost use Rattle.std.specs.Str.{bytes_eq};
 ghost use Rattle.std.specs.Char.{is_ascii_alphanumeric};
@@ -67,10 +67,19 @@ impl SheetNames {
         Ok(SheetNames { names })
     }
 
+    /// How many sheets there are: 1 to 16.
+    pub fn count(&self) -> usize
+        ensures count { result ≡ length self.now }
+        ensures sound { AreSheetNames self.now }
+    {
+        self.names.len()
+    }
+
     /// The number of the sheet with this name.
     #[tactic(auto, using(crate::proofs::Numbering::number_of_mapped, crate::proofs::Numbering::number_is_there))]
     pub fn find(&self, name: &str) -> Option<u8>
         ensures number { result ≡ number_of self.now name.now }
+        ensures within { IfSome result (λ sheet. sheet < length self.now) }
         ensures sound { AreSheetNames self.now }
     {
         match position_of(&self.names, name) {

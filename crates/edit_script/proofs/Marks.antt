@@ -1,12 +1,16 @@
 -- Texts with and without a mark.
-use Rattle.std.proofs.Common.{◌≡◌, ◌≢◌, ℕ, zero, suc, ◌+◌, ◌<◌, Bool, true, false, not, cond, ◌||◌, ◌==◌, nat_eq, List, [], ◌∷◌, ◌++◌, length, refl, sym, ap, ◌∙◌, arith, Option, Some, None}
+use Rattle.std.proofs.Common.{◌≡◌, ◌≢◌, ℕ, zero, suc, ◌+◌, ◌-◌, ◌*◌, ◌<◌, ◌≤◌, subst, Bool, true, false, not, cond, ◌||◌, ◌==◌, nat_eq, List, [], ◌∷◌, ◌++◌, length, refl, sym, ap, ◌∙◌, arith, Option, Some, None}
 use Rattle.std.proofs.lemmas.Bool.{ne_eqb, cond-false}
 use Rattle.std.proofs.lemmas.Str.{IsUtf8-from_is_utf8, is_utf8-from_IsUtf8}
 use Rattle.std.specs.List.{list_any, position_or_len}
 use Rattle.std.specs.Str.{IsUtf8, is_utf8}
 use Rattle.std.proofs.lemmas.Str.Pattern.{strip_prefix_char}
 use Rattle.std.specs.Str.Pattern.{FindsCharPrefix}
-use Rattle.edit_script.specs.Targets.{Names, is_bang, is_quote, quoted, behind_bang}
+use Rattle.cell_values.specs.declared.TheConstants.{MAX_RANGE_CELLS}
+use Rattle.cell_values.specs.declared.address.Addr.{Addr}
+use Rattle.cell_values.specs.declared.address.Area.{Area}
+use Rattle.cell_values.specs.Areas.{one_cell, height, width, IsArea}
+use Rattle.edit_script.specs.Targets.{Names, IsCellOf, IsAreaOf, is_bang, is_quote, quoted, behind_bang}
 
 unquoted : (text : List ℕ) → ((rest : List ℕ) → text ≢ 39 ∷ rest) → quoted text ≡ (None, text)
 unquoted [] none = refl
@@ -52,3 +56,17 @@ no_utf8_test bytes n = go (is_utf8 bytes) refl
     go : (b : Bool) → is_utf8 bytes ≡ b → is_utf8 bytes ≡ false
     go true e = absurd (n (IsUtf8-from_is_utf8 bytes e))
     go false e = e
+
+-- one cell is an area of the sheets
+pub one_of_sheets : (names : Names) (a : Addr) (r : Area) → IsCellOf names a → IsArea r → r ≡ one_cell a → IsAreaOf names r
+unfolding height width
+one_of_sheets names a r c area e = subst (IsAreaOf names) (sym e) (record { area = subst IsArea e area; of_sheets = c.of_sheets; few = small })
+  where
+    one : (n : ℕ) → suc n - n ≡ 1
+    one n = omega arith
+
+    single : (m n : ℕ) → m ≡ 1 → n ≡ 1 → m * n ≤ MAX_RANGE_CELLS
+    single m n p q = subst (λ k. k * n ≤ MAX_RANGE_CELLS) (sym p) (subst (λ k. 1 * k ≤ MAX_RANGE_CELLS) (sym q) (omega arith))
+
+    small : height (one_cell a) * width (one_cell a) ≤ MAX_RANGE_CELLS
+    small = single (suc a.row - a.row) (suc a.col - a.col) (one a.row) (one a.col)

@@ -1,11 +1,11 @@
 -- What a line of a script asks for.
-use Rattle.std.specs.Prelude.{◌≡◌, ℕ, ⊤, ◌==◌, List, [], ◌∷◌, Option, Some, None, option_map, option_and_then, Result, Ok, Err, codes, if◌then◌else◌}
+use Rattle.std.specs.Prelude.{◌≡◌, ℕ, ◌<◌, length, ⊤, ◌==◌, List, [], ◌∷◌, Option, Some, None, option_map, option_and_then, Result, Ok, Err, codes, if◌then◌else◌}
 use Rattle.std.specs.List.{before_first, after_first}
 use Rattle.std.specs.Str.{bytes_eq, is_utf8}
 use Rattle.edit_script.specs.declared.line.Line.{Line}
 use Rattle.edit_script.specs.declared.line.LineFault.{LineFault}
 use Rattle.edit_script.specs.Pieces.{is_space, without_cr, behind_spaces, trimmed}
-use Rattle.edit_script.specs.Targets.{Names, target_in, target_before, behind_target, area_in, sheet_in}
+use Rattle.edit_script.specs.Targets.{Names, IsCellOf, IsAreaOf, target_in, target_before, behind_target, area_in, sheet_in}
 
 -- a line, or the fault of a reference
 abbrev pub or_bad : Option Line → Result Line LineFault
@@ -49,6 +49,17 @@ line_in names (c ∷ rest) = if c == 35 then Ok Line.Nothing
 -- what a line asks for, or why it is refused, where the sheets have these names
 unfoldable pub line_of : Names → List ℕ → Result Line LineFault
 line_of names bytes = if is_utf8 bytes then line_in names (without_cr bytes) else Err LineFault.NotUtf8
+
+-- the cells, areas and sheets that a line names are those of the book
+abbrev pub IsLineOf : Names → Line → Type 0
+IsLineOf names Line.Nothing = ⊤
+IsLineOf names (Line.Set at field) = IsCellOf names at
+IsLineOf names (Line.Clear at) = IsCellOf names at
+IsLineOf names (Line.Copy from to) = IsCellOf names from × IsAreaOf names to
+IsLineOf names (Line.Show at) = IsCellOf names at
+IsLineOf names (Line.Print sheet) = sheet < length names
+IsLineOf names Line.Recalc = ⊤
+IsLineOf names Line.Cycles = ⊤
 
 -- the fault is the line's, unless memory ran out
 abbrev pub IsFaultOf : Result Line LineFault → LineFault → Type 0

@@ -1,10 +1,11 @@
 -- The cells, areas and sheets that a line names.
-use Rattle.std.specs.Prelude.{ℕ, ◌*◌, Bool, ◌==◌, nat_le, List, [], ◌∷◌, drop, Option, Some, None, option_map, option_and_then, if◌then◌else◌}
+use Rattle.std.specs.Prelude.{ℕ, ◌*◌, ◌<◌, ◌≤◌, length, Bool, ◌==◌, nat_le, List, [], ◌∷◌, drop, Option, Some, None, option_map, option_and_then, if◌then◌else◌}
 use Rattle.std.specs.List.{list_any, before_first, after_first}
 use Rattle.cell_values.specs.declared.TheConstants.{MAX_RANGE_CELLS}
 use Rattle.cell_values.specs.declared.address.Addr.{Addr}
 use Rattle.cell_values.specs.declared.address.Area.{Area}
-use Rattle.cell_values.specs.Areas.{between_cells, one_cell, height, width}
+use Rattle.cell_values.specs.Addresses.{IsOnSheet}
+use Rattle.cell_values.specs.Areas.{between_cells, one_cell, height, width, IsArea}
 use Rattle.cell_values.specs.CellText.{read_addr}
 use Rattle.cell_values.specs.Interned.{number_of}
 use Rattle.cell_values.specs.Names.{is_plain_name}
@@ -22,6 +23,17 @@ is_bang c = c == 33
 
 abbrev pub is_colon : ℕ → Bool
 is_colon c = c == 58
+
+-- a cell of one of the sheets
+pub record IsCellOf (names : Names) (a : Addr) : Type 0 where
+  pub on_sheet : IsOnSheet a
+  pub of_sheets : a.sheet < length names
+
+-- an area of one of the sheets, with no more cells than a range may have
+pub record IsAreaOf (names : Names) (r : Area) : Type 0 where
+  pub area : IsArea r
+  pub of_sheets : r.sheet < length names
+  pub few : height r * width r ≤ MAX_RANGE_CELLS
 
 -- a text, cut behind a name in single quotes in front, if one stands there: the name, and the rest
 abbrev pub quoted : List ℕ → Option (List ℕ) × List ℕ

@@ -1,7 +1,7 @@
 //! The reading of a line.
 
-ghost use Rattle.std.specs.Prelude.{◌≡◌, ◌==◌, Ok, IfOk, IfErr};
-ghost use Rattle.edit_script.specs.Lines.{alone, command_in, copy_in, line_in, line_of, or_bad, set_in, trimmed_command, IsFaultOf};
+ghost use Rattle.std.specs.Prelude.{◌≡◌, ◌<◌, length, Ok, IfOk, IfErr, IfSome};
+ghost use Rattle.edit_script.specs.Lines.{alone, command_in, copy_in, line_in, line_of, or_bad, set_in, trimmed_command, IsFaultOf, IsLineOf};
 ghost use Rattle.edit_script.specs.Targets.{sheet_in, target_in};
 ghost use Rattle.edit_script.specs.declared.line.Line.{Line};
 ghost use Rattle.std.specs.Option.{option_map};
@@ -20,8 +20,10 @@ use std::alloc::Global;
 #[tactic(auto, using(crate::proofs::Marks::utf8_test, crate::proofs::Marks::no_utf8_test), unfolding(crate::specs::Lines::line_of))]
 pub fn read_line(alloc: Global, bytes: &[u8], sheets: &SheetNames) -> Result<Line, LineFault>
     ensures ok { IfOk result (λ line. line_of sheets.now bytes.now ≡ Ok line) }
+    ensures within { IfOk result (IsLineOf sheets.now) }
     ensures fault { IfErr result (IsFaultOf (line_of sheets.now bytes.now)) }
 {
+    let _count = sheets.count();
     match str::from_utf8(bytes) {
         Ok(line) => read_text(alloc, without_cr(line), sheets),
         Err(_) => Err(LineFault::NotUtf8),
@@ -30,7 +32,9 @@ pub fn read_line(alloc: Global, bytes: &[u8], sheets: &SheetNames) -> Result<Lin
 
 /// Reads a line without its CR.
 fn read_text(alloc: Global, line: &str, sheets: &SheetNames) -> Result<Line, LineFault>
+    requires { 0 < length sheets.now }
     ensures ok { IfOk result (λ asked. line_in sheets.now line.now ≡ Ok asked) }
+    ensures within { IfOk result (IsLineOf sheets.now) }
     ensures fault { IfErr result (IsFaultOf (line_in sheets.now line.now)) }
 {
     match line.as_bytes() {
@@ -49,7 +53,9 @@ fn read_command(
     text: &str,
     sheets: &SheetNames,
 ) -> Result<Line, LineFault>
+    requires { 0 < length sheets.now }
     ensures ok { IfOk result (λ line. command_in sheets.now command.now text.now ≡ Ok line) }
+    ensures within { IfOk result (IsLineOf sheets.now) }
     ensures fault { IfErr result (IsFaultOf (command_in sheets.now command.now text.now)) }
 {
     match command {
@@ -60,7 +66,9 @@ fn read_command(
 
 /// Reads a cell and its field.
 fn read_set(alloc: Global, text: &str, sheets: &SheetNames) -> Result<Line, LineFault>
+    requires { 0 < length sheets.now }
     ensures ok { IfOk result (λ line. or_bad (set_in sheets.now text.now) ≡ Ok line) }
+    ensures within { IfOk result (IsLineOf sheets.now) }
     ensures fault { IfErr result (IsFaultOf (or_bad (set_in sheets.now text.now))) }
 {
     let (cell, field) = split_target(sheets, text);
@@ -72,7 +80,9 @@ fn read_set(alloc: Global, text: &str, sheets: &SheetNames) -> Result<Line, Line
 
 /// Reads what stands behind a command other than `set`.
 fn read_trimmed(command: &str, text: &str, sheets: &SheetNames) -> Result<Line, LineFault>
+    requires { 0 < length sheets.now }
     ensures ok { IfOk result (λ line. trimmed_command sheets.now command.now text.now ≡ Ok line) }
+    ensures within { IfOk result (IsLineOf sheets.now) }
     ensures fault { IfErr result (IsFaultOf (trimmed_command sheets.now command.now text.now)) }
 {
     match command {
@@ -94,26 +104,34 @@ fn or_bad(line: Option<Line>) -> Result<Line, LineFault>
 }
 
 fn read_clear(text: &str, sheets: &SheetNames) -> Option<Line>
-    ensures { result ≡ option_map Line.Clear (target_in sheets.now text.now) }
+    requires { 0 < length sheets.now }
+    ensures same { result ≡ option_map Line.Clear (target_in sheets.now text.now) }
+    ensures within { IfSome result (IsLineOf sheets.now) }
 {
     Some(Line::Clear(read_target(sheets, text)?))
 }
 
 fn read_show(text: &str, sheets: &SheetNames) -> Option<Line>
-    ensures { result ≡ option_map Line.Show (target_in sheets.now text.now) }
+    requires { 0 < length sheets.now }
+    ensures same { result ≡ option_map Line.Show (target_in sheets.now text.now) }
+    ensures within { IfSome result (IsLineOf sheets.now) }
 {
     Some(Line::Show(read_target(sheets, text)?))
 }
 
 fn read_print(text: &str, sheets: &SheetNames) -> Option<Line>
-    ensures { result ≡ option_map Line.Print (sheet_in sheets.now text.now) }
+    requires { 0 < length sheets.now }
+    ensures same { result ≡ option_map Line.Print (sheet_in sheets.now text.now) }
+    ensures within { IfSome result (IsLineOf sheets.now) }
 {
     Some(Line::Print(read_sheet(sheets, text)?))
 }
 
 /// Reads a cell, one space and an area.
 fn read_copy(text: &str, sheets: &SheetNames) -> Option<Line>
-    ensures { result ≡ copy_in sheets.now text.now }
+    requires { 0 < length sheets.now }
+    ensures same { result ≡ copy_in sheets.now text.now }
+    ensures within { IfSome result (IsLineOf sheets.now) }
 {
     let (from, area) = split_target(sheets, text);
     Some(Line::Copy(from?, read_area(sheets, area)?))

@@ -1,7 +1,11 @@
 //! A table of lines, with what they ask for.
 
+ghost use Rattle.cell_values.specs.Addresses.{IsOnSheet};
+ghost use Rattle.cell_values.specs.Areas.{IsArea};
+ghost use Rattle.edit_script.specs.Lines.{IsLineOf};
+
 use crate::{Line, LineFault, read_line};
-use cell_values::{Addr, SheetNames};
+use cell_values::{Addr, Area, SheetNames};
 use std::alloc::{AllocError, Global};
 use std::test::Fail;
 
@@ -136,13 +140,35 @@ fn unspelled(alloc: Global, text: &str) -> Result<String, AllocError> {
     Ok(line)
 }
 
-fn push_cell(alloc: Global, text: &mut String, at: Addr) -> Result<(), AllocError> {
+fn push_cell(alloc: Global, text: &mut String, at: Addr) -> Result<(), AllocError>
+    requires { IsOnSheet at }
+{
     let cell = at.cell_text(alloc)?;
     write!(text, " {} {cell}", at.sheet)
 }
 
+fn push_area(alloc: Global, text: &mut String, area: Area) -> Result<(), AllocError>
+    requires { IsArea area }
+{
+    let first = Addr {
+        sheet: area.sheet,
+        row: area.top,
+        col: area.left,
+    };
+    let last = Addr {
+        sheet: area.sheet,
+        row: area.bottom,
+        col: area.right,
+    };
+    push_cell(alloc, text, first)?;
+    let last = last.cell_text(alloc)?;
+    write!(text, ":{last}")
+}
+
 /// What a line asks for, as the table spells it.
-fn spell(alloc: Global, line: &Line) -> Result<String, AllocError> {
+fn spell(alloc: Global, sheets: &SheetNames, line: &Line) -> Result<String, AllocError>
+    requires { IsLineOf sheets.now line.now }
+{
     let mut text = String::new(alloc);
     match line {
         Line::Nothing => text.push_str("nothing")?,
@@ -159,9 +185,7 @@ fn spell(alloc: Global, line: &Line) -> Result<String, AllocError> {
         Line::Copy(from, to) => {
             text.push_str("copy")?;
             push_cell(alloc, &mut text, *from)?;
-            push_cell(alloc, &mut text, to.cell(0, 0))?;
-            let last = to.cell(to.rows() - 1, to.columns() - 1).cell_text(alloc)?;
-            write!(text, ":{last}")?;
+            push_area(alloc, &mut text, *to)?;
         }
         Line::Show(at) => {
             text.push_str("show")?;
@@ -185,16 +209,18 @@ fn spell_fault(fault: LineFault) -> &'static str {
 
 fn read_as(alloc: Global, sheets: &SheetNames, line: &[u8]) -> Result<String, AllocError> {
     match read_line(alloc, line, sheets) {
-        Ok(line) => spell(alloc, &line),
+        Ok(line) => spell(alloc, sheets, &line),
         Err(fault) => String::from_str(alloc, spell_fault(fault)),
     }
 }
 
 fn some_sheets(alloc: Global) -> Result<SheetNames, Fail> {
-    let mut names = Vec::new(alloc);
-    for name in ["Sheet1.csv", "x/my plan.csv", "2024", "a:b"] {
-        names.push(String::from_str(alloc, name)?)?;
-    }
+    let names = vec![in alloc;
+        String::from_str(alloc, "Sheet1.csv")?,
+        String::from_str(alloc, "x/my plan.csv")?,
+        String::from_str(alloc, "2024")?,
+        String::from_str(alloc, "a:b")?,
+    ]?;
     Ok(SheetNames::new(alloc, &names)?)
 }
 

@@ -84,8 +84,12 @@ tree_or_fault own ts end = by_outcome (run ts end 0 start) refl
         inl (meaning own r.0, accepted_reads own ts end r.0 r.2 s e)
     by_outcome (fault place n) e = inr (place, n, run_fault ts end place n e)
 
+-- an accepted run has no first fault
+pub accepted_faultless : (ts : List Spot) (end place : ℕ) (k : FaultKind) → run ts end 0 start ≡ accepted → FirstFault ts end place k → ⊥
+accepted_faultless ts end place k e h =
+    run_faultless ts end e (tokens_of h.before) h.token.token (tokens_of h.after)
+    (sym (tokens_of-append ts (record { token = Token.End; place = end } ∷ [])) ∙ ap tokens_of h.text ∙ tokens_of-append h.before (h.token ∷ h.after)) k h.applies
+
 -- and never both
 pub never_both : (own : Addr) (ts : List Spot) (end place : ℕ) (n : FaultKind) (f : Expr) → Reads own (tokens_of ts) f → FirstFault ts end place n → ⊥
-never_both own ts end place n f r h =
-    run_faultless ts end (reads_accepted own ts end f r) (tokens_of h.before) h.token.token (tokens_of h.after)
-    (sym (tokens_of-append ts (record { token = Token.End; place = end } ∷ [])) ∙ ap tokens_of h.text ∙ tokens_of-append h.before (h.token ∷ h.after)) n h.applies
+never_both own ts end place n f r h = accepted_faultless ts end place n (reads_accepted own ts end f r) h

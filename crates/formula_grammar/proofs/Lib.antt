@@ -11,11 +11,9 @@ pub mod Quotes
 pub mod Known
 pub mod TokenCounts
 pub mod Answered
-pub mod PrintedTokens
-pub mod PrintedWords
-pub mod PrintedSigns
 pub mod PrintedCells
 pub mod PrintedParts
 pub mod PrintedReferences
 pub mod PrintedViews
 pub mod ReadBack
+pub mod Alike

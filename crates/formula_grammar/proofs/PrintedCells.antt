@@ -24,11 +24,11 @@ use Rattle.formula_trees.specs.References.{part_at, up_to, cell_at, resolve}
 use Rattle.formula_tokens.specs.declared.token.Corner.{Corner}
 use Rattle.formula_tokens.specs.declared.token.Word.{Word}
 use Rattle.formula_tokens.specs.Words.{begins_word, is_word_byte, leading, behind, begins_with, without_dollar, clipped, coordinate, corner_from, corner_of}
-use Rattle.formula_tokens.specs.Lexemes.{reference, plain_word}
+use Rattle.formula_tokens.specs.Lexemes.{Other, reference, plain_word}
 use Rattle.formula_grammar.specs.Printed.{dollar, cell_or_error}
 use Rattle.formula_grammar.specs.Syntax.{part}
-use Rattle.formula_grammar.proofs.PrintedTokens.{tokens_in}
-use Rattle.formula_grammar.proofs.PrintedWords.{closes, opens, is_word, run_leads, run_behind, plain_tokens}
+use Rattle.formula_tokens.proofs.Lexed.{lexemes_in}
+use Rattle.formula_tokens.proofs.LexedWords.{closes, opens, is_word, begins_not, closes_words, closes_call, run_leads, run_behind, plain_lexeme}
 
 abbrev pub is_absolute : Part → Bool
 is_absolute (Part.At n) = true
@@ -154,24 +154,24 @@ is_word_cell (Part.By m) q l ls ds h d =
     let first = letter_begins l (and_parts (is_ascii_alphabetic l) (list_all is_ascii_alphabetic ls) h).0 in
     and_from (begins_word l) (list_all is_word_byte ((l ∷ ls) ++ (dollar q ++ ds))) first.0 (words_join (l ∷ ls) (dollar q ++ ds) (letter_words (l ∷ ls) h) (dollar_words q ds (digit_words ds d)))
 
-reference_tokens : (names : List (List ℕ)) (ts : Texts) (prefixed : Bool) (w rest : List ℕ) (c : Corner) → is_word w ≡ true → closes rest ≡ true → corner_of w ≡ Some c → tokens_in names ts 0 prefixed (w ++ rest) ≡ reference prefixed (Word.Cell c) ∷ tokens_in names ts 0 false rest
-reference_tokens names ts true w rest c h k e = plain_tokens names ts true w rest (reference true (Word.Cell c)) h k (ap (plain_word true w) e) refl refl
-reference_tokens names ts false w rest c h k e = plain_tokens names ts false w rest (reference false (Word.Cell c)) h k (ap (plain_word false w) e) refl refl
+reference_lexeme : (names : List (List ℕ)) (prefixed : Bool) (w rest : List ℕ) (c : Corner) → is_word w ≡ true → closes rest ≡ true → corner_of w ≡ Some c → lexemes_in names 0 prefixed (w ++ rest) ≡ Other (reference prefixed (Word.Cell c)) ∷ lexemes_in names 0 false rest
+reference_lexeme names true w rest c h k e = plain_lexeme names true w rest (reference true (Word.Cell c)) h (closes_words rest k) (begins_not 33 rest k refl) (closes_call rest k) (ap (plain_word true w) e) refl refl
+reference_lexeme names false w rest c h k e = plain_lexeme names false w rest (reference false (Word.Cell c)) h (closes_words rest k) (begins_not 33 rest k refl) (closes_call rest k) (ap (plain_word false w) e) refl refl
 
-word_tokens : (names : List (List ℕ)) (ts : Texts) (prefixed : Bool) (p q : Part) (letters ds rest : List ℕ) (m n : ℕ) → 0 < length letters → list_all is_ascii_alphabetic letters ≡ true → 0 < length ds → all_ascii_digits ds ≡ true
+word_lexeme : (names : List (List ℕ)) (prefixed : Bool) (p q : Part) (letters ds rest : List ℕ) (m n : ℕ) → 0 < length letters → list_all is_ascii_alphabetic letters ≡ true → 0 < length ds → all_ascii_digits ds ≡ true
     → column_number letters ≡ m → digits_value 10 ds ≡ n → m ≤ 256 → n ≤ 65536 → closes rest ≡ true
-    → tokens_in names ts 0 prefixed ((dollar p ++ (letters ++ (dollar q ++ ds))) ++ rest) ≡ reference prefixed (Word.Cell (record { col = record { number = m; absolute = is_absolute p }; row = record { number = n; absolute = is_absolute q } })) ∷ tokens_in names ts 0 false rest
-word_tokens names ts prefixed p q [] ds rest m n some h few d e f low small c = absurd (omega arith)
-word_tokens names ts prefixed p q (l ∷ ls) ds rest m n some h few d e f low small c =
-    reference_tokens names ts prefixed (dollar p ++ ((l ∷ ls) ++ (dollar q ++ ds))) rest _ (is_word_cell p q l ls ds h d) c
+    → lexemes_in names 0 prefixed ((dollar p ++ (letters ++ (dollar q ++ ds))) ++ rest) ≡ Other (reference prefixed (Word.Cell (record { col = record { number = m; absolute = is_absolute p }; row = record { number = n; absolute = is_absolute q } }))) ∷ lexemes_in names 0 false rest
+word_lexeme names prefixed p q [] ds rest m n some h few d e f low small c = absurd (omega arith)
+word_lexeme names prefixed p q (l ∷ ls) ds rest m n some h few d e f low small c =
+    reference_lexeme names prefixed (dollar p ++ ((l ∷ ls) ++ (dollar q ++ ds))) rest _ (is_word_cell p q l ls ds h d) c
     (corner_whole p l ls (dollar q ++ ds) h (no_letters q ds d) ∙ corner_row (is_absolute p) (l ∷ ls) q ds d ∙ corner_made (is_absolute p) (is_absolute q) (l ∷ ls) ds m n some few d e f low small)
 
 -- a reference's text without its prefix
-pub cell_tokens : (names : List (List ℕ)) (ts : Texts) (prefixed : Bool) (at : Addr) (r : Reference) (a : Addr) (rest : List ℕ) → Resolved at r a → closes rest ≡ true → tokens_in names ts 0 prefixed (cell_or_error r (Some a) ++ rest) ≡ reference prefixed (Word.Cell (corner r a)) ∷ tokens_in names ts 0 false rest
-cell_tokens names ts prefixed at r a rest in_sheet c =
+pub cell_lexeme : (names : List (List ℕ)) (prefixed : Bool) (at : Addr) (r : Reference) (a : Addr) (rest : List ℕ) → Resolved at r a → closes rest ≡ true → lexemes_in names 0 prefixed (cell_or_error r (Some a) ++ rest) ≡ Other (reference prefixed (Word.Cell (corner r a))) ∷ lexemes_in names 0 false rest
+cell_lexeme names prefixed at r a rest in_sheet c =
     let named = column_letters_name a.col in_sheet.col_from in_sheet.col_to in
     let fits : a.row < 2 ^ 64 = omega (arith, in_sheet.row_to) in
-    word_tokens names ts prefixed r.col r.row (column_letters a.col) (decimal a.row) rest a.col a.row (some_letters a.col) named.all_letters (decimal_nonempty a.row fits) (digits_decimal own a.row fits)
+    word_lexeme names prefixed r.col r.row (column_letters a.col) (decimal a.row) rest a.col a.row (some_letters a.col) named.all_letters (decimal_nonempty a.row fits) (digits_decimal own a.row fits)
     named.value (digits_value-decimal own a.row fits) in_sheet.col_to in_sheet.row_to c
 
 letter_opens : (b : ℕ) (rest : List ℕ) → is_ascii_alphabetic b ≡ true → opens (b ∷ rest) ≡ true

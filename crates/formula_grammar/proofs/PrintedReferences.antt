@@ -1,5 +1,5 @@
 -- References and ranges as they are written.
-use Rattle.std.proofs.Common.{◌≡◌, ℕ, ◌+◌, ◌*◌, ◌<◌, ◌≤◌, true, false, List, [], ◌∷◌, ◌++◌, length, refl, ap, ap₂, sym, ◌∙◌, arith, Option, Some, None}
+use Rattle.std.proofs.Common.{◌≡◌, ℕ, ◌+◌, ◌*◌, ◌<◌, ◌≤◌, true, false, List, [], ◌∷◌, ◌++◌, length, map, refl, ap, ap₂, sym, ◌∙◌, arith, Option, Some, None}
 use Rattle.std.specs.Prelude.{codes, slice_index_or, IsSome, IsSomeAnd}
 use Rattle.std.specs.List.{AllByRecursion}
 use Rattle.std.proofs.lemmas.Bool.{cond-true}
@@ -17,15 +17,18 @@ use Rattle.formula_trees.specs.Sound.{IsRange}
 use Rattle.formula_tokens.specs.declared.token.Corner.{Corner}
 use Rattle.formula_tokens.specs.declared.token.Token.{Token}
 use Rattle.formula_tokens.specs.declared.token.Word.{Word}
+use Rattle.formula_tokens.specs.Lexemes.{Lexeme, Other}
+use Rattle.formula_tokens.specs.Tokens.{token_of, HoldsLiteral}
 use Rattle.formula_grammar.specs.Printed.{cell_or_error, prefix_of}
 use Rattle.formula_grammar.specs.Syntax.{Target, here, on_sheet, target_spelling, target_marks, target_word, target_sheet, target_meaning, reference_at, cells_between, quiet, sized}
 use Rattle.formula_grammar.specs.declared.faults.FaultKind.{FaultKind}
 use Rattle.formula_grammar.specs.Fault.{is_inside, corner_fault, own_fault, named_fault, total_nodes}
-use Rattle.formula_grammar.proofs.PrintedTokens.{tokens_in}
-use Rattle.formula_grammar.proofs.PrintedWords.{closes, opens}
-use Rattle.formula_grammar.proofs.PrintedSigns.{numbered, prefix_tokens, prefix_opens}
-use Rattle.formula_grammar.proofs.PrintedCells.{corner, Resolved, resolved, part_back, cell_tokens, cell_opens}
-use Rattle.formula_grammar.proofs.PrintedParts.{Part, all_join, total_join, opens_more}
+use Rattle.formula_tokens.proofs.Lexed.{lexemes_in}
+use Rattle.formula_tokens.proofs.LexedWords.{closes, opens}
+use Rattle.formula_tokens.proofs.LexedSigns.{prefix_lexeme, prefix_opens}
+use Rattle.formula_tokens.proofs.Held.{numbered}
+use Rattle.formula_grammar.proofs.PrintedCells.{corner, Resolved, resolved, part_back, cell_lexeme, cell_opens}
+use Rattle.formula_grammar.proofs.PrintedParts.{Part, tokens_around, all_join, total_join, opens_more}
 
 -- a word behind the prefix of a sheet, if one is named
 abbrev pub target_of : Option ℕ → Word → Target
@@ -77,21 +80,33 @@ target_inside : (at : Addr) (r : Reference) (a : Addr) (o : Option ℕ) → Reso
 target_inside at r a None h = (corner_known at r a h, tt)
 target_inside at r a (Some s) h = (refl, (corner_known at r a h, tt))
 
+abbrev target_lexed : Option ℕ → Word → List Lexeme
+target_lexed None w = Other (Token.Reference w) ∷ []
+target_lexed (Some s) w = Other (Token.Prefix (Some s)) ∷ Other (Token.SheetReference w) ∷ []
+
+target_tokens : (ts : Texts) (o : Option ℕ) (w : Word) → map (token_of ts) (target_lexed o w) ≡ target_spelling (target_of o w)
+target_tokens ts None w = refl
+target_tokens ts (Some s) w = refl
+
+target_held : (ts : Texts) (o : Option ℕ) (w : Word) → AllByRecursion (HoldsLiteral ts) (target_lexed o w)
+target_held ts None w = (tt, tt)
+target_held ts (Some s) w = (tt, (tt, tt))
+
 module _ (names : List (List ℕ)) (ts : Texts) (good : AreSheetNames names) where
-  abbrev after : List ℕ → List Token
-  after rest = tokens_in names ts 0 false rest
+  abbrev after : List ℕ → List Lexeme
+  after rest = lexemes_in names 0 false rest
 
   good_name : (s : ℕ) → s < length names → is_good_name (slice_index_or names s []) ≡ true
   good_name s h = good.good s [] h
 
   target_reads : (at : Addr) (r : Reference) (a : Addr) (o : Option ℕ) (rest : List ℕ) → Resolved at r a → SheetBelow (length names) o → closes rest ≡ true
-      → after ((prefix_of names o ++ cell_or_error r (Some a)) ++ rest) ≡ target_spelling (target_of o (word_of r a)) ++ after rest
-  target_reads at r a None rest h below c = cell_tokens names ts false at r a rest h c
+      → after ((prefix_of names o ++ cell_or_error r (Some a)) ++ rest) ≡ target_lexed o (word_of r a) ++ after rest
+  target_reads at r a None rest h below c = cell_lexeme names false at r a rest h c
   target_reads at r a (Some s) rest h below c =
       let name : List ℕ = slice_index_or names s [] in
       ap after (append_assoc (prefix_text name) (cell_or_error r (Some a)) rest)
-      ∙ prefix_tokens names ts name (cell_or_error r (Some a) ++ rest) (Some s) (good_name s below) (numbered names good.distinct s below)
-      ∙ ap (λ us. Token.Prefix (Some s) ∷ us) (cell_tokens names ts true at r a rest h c)
+      ∙ prefix_lexeme names name (cell_or_error r (Some a) ++ rest) (Some s) (good_name s below) (numbered names good.distinct s below)
+      ∙ ap (λ us. Other (Token.Prefix (Some s)) ∷ us) (cell_lexeme names true at r a rest h c)
 
   target_opens : (at : Addr) (r : Reference) (a : Addr) (o : Option ℕ) (rest : List ℕ) → Resolved at r a → SheetBelow (length names) o → opens ((prefix_of names o ++ cell_or_error r (Some a)) ++ rest) ≡ true
   target_opens at r a None rest h below = cell_opens at r a rest h
@@ -105,7 +120,10 @@ module _ (names : List (List ℕ)) (ts : Texts) (good : AreSheetNames names) whe
   cell_part at r a h below = record {
     allowed = tt;
     means = ap Ref (ap₂ (reference_at at) (sheet_is r.sheet (word_of r a)) (word_is r.sheet (word_of r a)) ∙ word_means at r a r.sheet h refl);
+    lexed = target_lexed r.sheet (word_of r a);
     reads = λ rest c. target_reads at r a r.sheet rest h below c;
+    tokens = target_tokens ts r.sheet (word_of r a);
+    held = target_held ts r.sheet (word_of r a);
     begins = ap opens (sym (append-nil (prefix_of names r.sheet ++ cell_or_error r (Some a)))) ∙ target_opens at r a r.sheet [] h below;
     known = target_known r.sheet (corner r a);
     inside = target_inside at r a r.sheet h;
@@ -129,10 +147,13 @@ module _ (names : List (List ℕ)) (ts : Texts) (good : AreSheetNames names) whe
       record {
         allowed = tt;
         means = ap₂ Range first second;
+        lexed = p.lexed ++ Other Token.Colon ∷ Other (Token.Reference (word_of s b)) ∷ [];
         reads = λ rest c.
             ap after (append_assoc front (codes ":" ++ back) rest) ∙ p.reads (codes ":" ++ (back ++ rest)) refl
-            ∙ ap (λ us. target_spelling x ++ Token.Colon ∷ us) (cell_tokens names ts false at s b rest k c)
-            ∙ sym (append_assoc (target_spelling x) (Token.Colon ∷ Token.Reference (word_of s b) ∷ []) (after rest));
+            ∙ ap (λ us. p.lexed ++ Other Token.Colon ∷ us) (cell_lexeme names false at s b rest k c)
+            ∙ sym (append_assoc p.lexed (Other Token.Colon ∷ Other (Token.Reference (word_of s b)) ∷ []) (after rest));
+        tokens = tokens_around ts p.lexed (Other (Token.Reference (word_of s b)) ∷ []) Token.Colon (target_spelling x) (Token.Reference (word_of s b) ∷ []) p.tokens refl;
+        held = all_join _ p.lexed (Other Token.Colon ∷ Other (Token.Reference (word_of s b)) ∷ []) p.held (tt, (tt, tt));
         begins = opens_more front (codes ":" ++ back) p.begins;
         known = all_join _ (target_spelling x) (Token.Colon ∷ Token.Reference (word_of s b) ∷ []) p.known (refl, (refl, tt));
         inside = all_join _ (target_spelling x) (Token.Colon ∷ Token.Reference (word_of s b) ∷ []) p.inside (refl, (corner_known at s b k, tt));

@@ -1,6 +1,6 @@
 -- A tree as concrete syntax at each level, in parentheses where its root's level is lower.
-use Rattle.std.proofs.Common.{◌≡◌, ℕ, suc, ◌^◌, ◌<◌, Bool, true, false, cond, List, [], ◌∷◌, ◌++◌, length, refl, ap, ◌∙◌, arith}
-use Rattle.std.specs.Prelude.{ℤ, pos, negsuc, ◌&&◌, nat_lt, int_le, codes}
+use Rattle.std.proofs.Common.{◌≡◌, ℕ, suc, ◌^◌, ◌<◌, Bool, true, false, cond, List, [], ◌∷◌, ◌++◌, length, refl, ap, sym, subst, ◌∙◌, arith, Option}
+use Rattle.std.specs.Prelude.{IsSome, unwrap_or, ℤ, pos, negsuc, ◌&&◌, nat_lt, int_le, codes}
 use Rattle.std.specs.Fmt.{decimal}
 use Rattle.std.specs.Char.{is_ascii_digit}
 use Rattle.std.specs.Str.{all_ascii_digits}
@@ -20,11 +20,13 @@ use Rattle.formula_trees.specs.Expr.{Expr, Number, Text, Truth, RefError}
 use Rattle.formula_trees.specs.Sound.{IsLiteral}
 use Rattle.formula_tokens.specs.declared.token.Literal.{Literal}
 use Rattle.formula_tokens.specs.declared.token.Token.{Token}
-use Rattle.formula_grammar.specs.Printed.{quoted}
+use Rattle.formula_tokens.specs.Lexemes.{Quoted, Other}
+use Rattle.formula_tokens.specs.Spelling.{quoted}
 use Rattle.formula_grammar.specs.Syntax.{Expression, only_sum, Sums, only_term, Term, only_signed, Signed, plain, Primary, group, node, Fits, SumsFit, TermFits, SignedFits, PrimaryFits, spelling, sums_spelling, term_spelling, signed_spelling, primary_spelling, marks, sums_marks, term_marks, signed_marks, primary_marks, meaning, sums_meaning, term_meaning, signed_meaning, primary_meaning}
-use Rattle.formula_grammar.proofs.PrintedTokens.{tokens_in}
-use Rattle.formula_grammar.proofs.PrintedWords.{opens, begins_not, number_tokens}
-use Rattle.formula_grammar.proofs.PrintedSigns.{text_tokens, truth_tokens}
+use Rattle.formula_tokens.proofs.Lexed.{lexemes_in}
+use Rattle.formula_tokens.proofs.LexedWords.{opens, begins_not, closes_digits, fitting, number_lexeme}
+use Rattle.formula_tokens.proofs.Held.{numbered}
+use Rattle.formula_tokens.proofs.LexedSigns.{quoted_lexeme, truth_lexeme}
 use Rattle.formula_grammar.proofs.PrintedParts.{Part, one, grouped}
 
 -- in parentheses where a level is lower than asked for
@@ -144,20 +146,23 @@ number_part names ts F f (pos n) h =
     let some = numeral.0.0 in
     let value = numeral.1 in
     let same : fits (pos (digits_value 10 (decimal n))) ≡ true = ap (λ m. fits (pos m)) value ∙ fit in
-    one names ts (Number (pos n)) (decimal n) F (Token.Literal (Literal.Number (pos n))) (Number (pos n)) f refl
-    (λ rest c. number_tokens names ts (decimal n) rest digits some same c ∙ ap (λ m. Token.Literal (Literal.Number (pos m)) ∷ tokens_in names ts 0 false rest) value)
+    one names ts (Number (pos n)) (decimal n) F (Other (Token.Literal (Literal.Number (pos n)))) (Token.Literal (Literal.Number (pos n))) (Number (pos n)) f refl refl tt
+    (λ rest c. number_lexeme names false (decimal n) rest digits some (closes_digits rest c) ∙ ap (λ t. Other t ∷ lexemes_in names 0 false rest) (fitting (decimal n) same ∙ ap (λ m. Token.Literal (Literal.Number (pos m))) value))
     (digits_open (decimal n) digits some) (cond-true (int_le (pos 0) (pos n) && fits (pos n)) _ _ h) refl
 
 pub text_part : (names : List (List ℕ)) (ts : Texts) (F : Type 0) → F → AreDistinct ts → (t : TextId) → t.0 < length ts → LiteralPart names ts F (Text t) (quoted (text_at ts t)) (Literal.Text t)
 text_part names ts F f d t below =
-    one names ts (Text t) (quoted (text_at ts t)) F (Token.Literal (Literal.Text t)) (Text t) f refl (λ rest c. text_tokens names ts d t rest below (begins_not 34 rest c refl)) refl refl refl
+    let number = numbered ts d t.0 below in
+    one names ts (Text t) (quoted (text_at ts t)) F (Quoted (text_at ts t)) (Token.Literal (Literal.Text t)) (Text t) f refl
+    (ap (λ (o : Option ℕ). Token.Literal (Literal.Text (record { 0 = unwrap_or o 0 }))) number) (subst IsSome (sym number) refl)
+    (λ rest c. quoted_lexeme names false (text_at ts t) rest (begins_not 34 rest c refl)) refl refl refl
 
 truth_opens : (b : Bool) → opens (bool_text b) ≡ true
 truth_opens true = refl
 truth_opens false = refl
 
 pub truth_part : (names : List (List ℕ)) (ts : Texts) (F : Type 0) → F → (b : Bool) → LiteralPart names ts F (Truth b) (bool_text b) (Literal.Truth b)
-truth_part names ts F f b = one names ts (Truth b) (bool_text b) F (Token.Literal (Literal.Truth b)) (Truth b) f refl (λ rest c. truth_tokens names ts b rest c) (truth_opens b) refl refl
+truth_part names ts F f b = one names ts (Truth b) (bool_text b) F (Other (Token.Literal (Literal.Truth b))) (Token.Literal (Literal.Truth b)) (Truth b) f refl refl tt (λ rest c. truth_lexeme names b rest c) (truth_opens b) refl refl
 
 pub ref_error_part : (names : List (List ℕ)) (ts : Texts) (F : Type 0) → F → LiteralPart names ts F RefError (codes "#REF!") Literal.RefError
-ref_error_part names ts F f = one names ts RefError (codes "#REF!") F (Token.Literal Literal.RefError) RefError f refl (λ rest c. refl) refl refl refl
+ref_error_part names ts F f = one names ts RefError (codes "#REF!") F (Other (Token.Literal Literal.RefError)) (Token.Literal Literal.RefError) RefError f refl refl tt (λ rest c. refl) refl refl refl

@@ -6,7 +6,7 @@ use Rattle.std.specs.List.{position_or_len, before_first, after_first}
 use Rattle.std.proofs.lemmas.Str.Pattern.{IsSplitOnceResult, split_once_first}
 use Rattle.std.proofs.Common.{lit<, is_ok}
 use Rattle.std.proofs.lemmas.List.{append_assoc}
-use Rattle.formula_grammar.specs.Printed.{doubled}
+use Rattle.formula_tokens.specs.Spelling.{doubled}
 
 abbrev pub is_quote : ℕ → Bool
 is_quote b = eqb b 34

@@ -1,5 +1,5 @@
 -- What is printed of a sound formula is read as the same tree.
-use Rattle.std.proofs.Common.{◌≡◌, ℕ, suc, ◌<◌, true, false, not, List, [], ◌∷◌, length, refl, ap, sym, subst, ◌∙◌, arith, Some, None}
+use Rattle.std.proofs.Common.{◌≡◌, ℕ, suc, ◌<◌, true, false, not, List, [], ◌∷◌, length, map, refl, ap, sym, subst, ◌∙◌, arith, Some, None}
 use Rattle.std.specs.Prelude.{ℤ, pos, IsTrue}
 use Rattle.std.specs.List.{AllByRecursion}
 use Rattle.std.proofs.lemmas.List.{append-nil}
@@ -18,12 +18,13 @@ use Rattle.formula_trees.specs.Sound.{IsLiteral, IsExpression, HasArguments, OfK
 use Rattle.formula_trees.specs.TextNumbers.{TextsBelow, AllTextsBelow}
 use Rattle.formula_tokens.specs.declared.token.Literal.{Literal}
 use Rattle.formula_tokens.specs.declared.token.Token.{Token}
-use Rattle.formula_tokens.specs.Tokens.{spots_of}
-use Rattle.formula_grammar.specs.Printed.{text_of, arguments_text}
+use Rattle.formula_tokens.specs.Tokens.{token_of, spots_of, HoldsLiteral, HoldsLiterals}
+use Rattle.formula_grammar.specs.Printed.{printed, text_of, arguments_text}
 use Rattle.formula_grammar.specs.Syntax.{compare, add, multiply, signed, literal, reference, call_none, call, Arguments, last, more, Argument, value, cell, area, lone, IsOfKind, is_exact, ArgumentsFit, ArgumentFits, spelling, arguments_spelling, argument_spelling, arguments_marks, argument_marks, arguments_meaning, argument_meaning}
 use Rattle.formula_grammar.specs.Fault.{own_fault, named_fault, tokens_of}
-use Rattle.formula_grammar.specs.RoundTrip.{PrintedReadsBack}
-use Rattle.formula_grammar.proofs.PrintedTokens.{tokens_in, whole_tokens}
+use Rattle.formula_grammar.specs.RoundTrip.{PrintedReadsBack, PrintedInternsNothing}
+use Rattle.formula_tokens.proofs.Lexed.{lexemes_in, whole_tokens, whole_held}
+use Rattle.formula_tokens.proofs.Held.{held_stay}
 use Rattle.formula_grammar.proofs.PrintedParts.{Part, of_kind, under_sign, between, called_none, called, ended, followed}
 use Rattle.formula_grammar.proofs.PrintedReferences.{target_of, reference_part, range_part}
 use Rattle.formula_grammar.proofs.PrintedViews.{Views, from_expression, from_sums, from_term, from_signed, from_primary, number_part, text_part, truth_part, ref_error_part}
@@ -118,10 +119,14 @@ pub printed_reads_back : PrintedReadsBack
 printed_reads_back names ts at e good distinct on sound texts sheets short =
     let v = right names ts at good distinct e sound.shape texts sheets in
     let text : List ℕ = text_of names ts at e in
+    let lexed : lexemes_in names 0 false text ≡ v.whole.lexed = ap (lexemes_in names 0 false) (sym (append-nil text)) ∙ v.whole.reads [] refl ∙ append-nil v.whole.lexed in
     let spelled : spelling v.expression ≡ tokens_of (spots_of names ts (61 ∷ text)) =
-    sym (whole_tokens names ts (61 ∷ text) ∙ ap (tokens_in names ts 0 false) (sym (append-nil text)) ∙ v.whole.reads [] refl ∙ append-nil (spelling v.expression)) in
+    sym (whole_tokens names ts (61 ∷ text) ∙ ap (map (token_of ts)) lexed ∙ v.whole.tokens) in
+    let literals : HoldsLiterals names ts (61 ∷ text) = whole_held names ts (61 ∷ text) (subst (AllByRecursion (HoldsLiteral ts)) (sym lexed) v.whole.held) in
     record {
+      formula = refl;
       short = short;
+      literals = literals;
       reads = record {
         expression = v.expression;
         fits = v.whole.allowed;
@@ -134,3 +139,7 @@ printed_reads_back names ts at e good distinct on sound texts sheets short =
         means = v.whole.means;
       };
     }
+
+-- and interns nothing
+pub printed_interns_nothing : PrintedInternsNothing
+printed_interns_nothing names ts at e good distinct on sound texts sheets short = held_stay names ts (printed names ts at e) (printed_reads_back names ts at e good distinct on sound texts sheets short).literals

@@ -14,31 +14,12 @@ use Rattle.formula_trees.specs.Expr.{Expr, Exprs, Number, Text, Truth, Ref, Rang
 use Rattle.formula_trees.specs.References.{resolve}
 use Rattle.formula_trees.specs.declared.levels.TheConstants.{SIGN_LEVEL}
 use Rattle.formula_trees.specs.Sound.{level_of, op_level}
+use Rattle.formula_tokens.specs.Spelling.{quoted, op_text}
 use Rattle.formula_tokens.specs.Words.{function_name}
-
--- a text with each double quote doubled
-abbrev pub doubled : List ℕ → List ℕ
-doubled text = flat_map (λ b. if b == 34 then 34 ∷ 34 ∷ [] else b ∷ []) text
-
--- a text between double quotes
-abbrev pub quoted : List ℕ → List ℕ
-quoted text = 34 ∷ (doubled text ++ 34 ∷ [])
 
 abbrev pub sign_text : Sign → List ℕ
 sign_text Sign.Minus = codes "-"
 sign_text Sign.Plus = codes "+"
-
-abbrev pub op_text : Op → List ℕ
-op_text Op.Add = codes "+"
-op_text Op.Sub = codes "-"
-op_text Op.Mul = codes "*"
-op_text Op.Div = codes "/"
-op_text Op.Eq = codes "="
-op_text Op.Ne = codes "<>"
-op_text Op.Lt = codes "<"
-op_text Op.Le = codes "<="
-op_text Op.Gt = codes ">"
-op_text Op.Ge = codes ">="
 
 -- a `$` before an absolute part
 abbrev pub dollar : Part → List ℕ

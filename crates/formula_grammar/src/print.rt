@@ -6,7 +6,8 @@ ghost use Rattle.formula_trees.specs.Expr.{expr_of, exprs_of};
 ghost use Rattle.formula_trees.specs.SheetNumbers.{SheetBelow, SheetsBelow, AllSheetsBelow};
 ghost use Rattle.formula_trees.specs.Sound.{level_of};
 ghost use Rattle.formula_trees.specs.TextNumbers.{TextsBelow, AllTextsBelow};
-ghost use Rattle.formula_grammar.specs.Printed.{printed, doubled, quoted, sign_text, op_text, dollar, corner_text, prefix_of, reference_text, enclosed, text_of, arguments_text, further_text};
+ghost use Rattle.formula_tokens.specs.Spelling.{doubled, quoted, op_text};
+ghost use Rattle.formula_grammar.specs.Printed.{printed, sign_text, dollar, corner_text, prefix_of, reference_text, enclosed, text_of, arguments_text, further_text};
 
 use cell_values::{Addr, Int, SheetNames, Texts, column_text};
 use formula_tokens::function_name;

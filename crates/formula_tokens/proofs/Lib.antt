@@ -4,3 +4,7 @@ pub mod Names
 pub mod Literals
 pub mod Plain
 pub mod Reading
+pub mod Held
+pub mod Lexed
+pub mod LexedWords
+pub mod LexedSigns

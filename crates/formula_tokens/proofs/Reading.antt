@@ -55,7 +55,7 @@ still_known ts text q n None true e t h =
 still_known ts text q n None false e t h = rw e (number_of_more ts text q e ∙ cond-false (bytes_eq text q) (Some (length ts)) (number_of ts q) t ∙ h)
 
 -- a text that is there keeps its number
-number_stays : (ts : Texts) (p : Placed) (q : List ℕ) (n : ℕ) → number_of ts q ≡ Some n → number_of (with_texts ts (literal_of p)) q ≡ Some n
+pub number_stays : (ts : Texts) (p : Placed) (q : List ℕ) (n : ℕ) → number_of ts q ≡ Some n → number_of (with_texts ts (literal_of p)) q ≡ Some n
 number_stays ts (place, Quoted text) q n h = still_known ts text q n (number_of ts text) (bytes_eq text q) refl refl h
 number_stays ts (place, Other t) q n h = h
 

@@ -1,3 +1,5 @@
 pub mod Words
 pub mod Lexemes
+pub mod Spelling
 pub mod Tokens
+pub mod Laws

@@ -1,5 +1,5 @@
 -- The tokens of a formula with their places, and the texts of its literals.
-use Rattle.std.specs.Prelude.{ℕ, List, [], ◌∷◌, map, flat_map, fold, unwrap_or}
+use Rattle.std.specs.Prelude.{ℕ, IsSome, List, [], ◌∷◌, map, flat_map, fold, unwrap_or}
 use Rattle.std.specs.List.{AllByRecursion}
 use Rattle.cell_values.specs.Texts.{Texts, IsTextOf}
 use Rattle.cell_values.specs.Interned.{number_of, interned}
@@ -39,3 +39,12 @@ TextIsOf ts _ = Unit {0}
 
 abbrev pub TextsAreOf : Texts → List Spot → Type 0
 TextsAreOf ts spots = AllByRecursion (λ s. TextIsOf ts s.token) spots
+
+-- these texts hold the text of a literal
+abbrev pub HoldsLiteral : Texts → Lexeme → Type 0
+HoldsLiteral ts (Quoted text) = IsSome (number_of ts text)
+HoldsLiteral ts (Other t) = Unit {0}
+
+-- these texts hold the literals of a formula
+unfoldable pub HoldsLiterals : List (List ℕ) → Texts → List ℕ → Type 0
+HoldsLiterals names ts text = AllByRecursion (λ p. HoldsLiteral ts p.1) (lexemes names text)

@@ -1,6 +1,7 @@
 //! The tokens of formulas, and how a text falls into them.
 #![tactic(auto)]
 
+pub mod laws;
 mod lexemes;
 pub mod lexer;
 pub mod token;

@@ -81,11 +81,11 @@ cell_formula b s h c m = go (formula_at b c) refl (subst IsSome (h c) m)
 pub formula_cell : (b : Book) (s : CellAreas) → IsSupportOf b s → (c : Addr) (t : Expr) → formula_at b c ≡ Some t → IsCell s c
 formula_cell b s h c t e = subst IsSome (sym (h c ∙ ap (option_map (areas c)) e)) refl
 
-pub reached_in_book : (b : Book) (s : CellAreas) → IsSupportOf b s → (area : Area) (c : Addr) → Reached s area c → laws.Reached b (λ a. is_inside area a ≡ true) c
+pub reached_in_book : (b : Book) (s : CellAreas) → IsSupportOf b s → (area : Area) (c : Addr) → Reached s (is_inside area) c → laws.Reached b (λ a. is_inside area a ≡ true) c
 reached_in_book b s h area c (start c' k) = laws.start c k
 reached_in_book b s h area c (step a c' r k) = laws.step a c (reached_in_book b s h area a r) (reads_mentions b s h c a k)
 
-pub reached_in_support : (b : Book) (s : CellAreas) → IsSupportOf b s → (area : Area) (c : Addr) → laws.Reached b (λ a. is_inside area a ≡ true) c → Reached s area c
+pub reached_in_support : (b : Book) (s : CellAreas) → IsSupportOf b s → (area : Area) (c : Addr) → laws.Reached b (λ a. is_inside area a ≡ true) c → Reached s (is_inside area) c
 reached_in_support b s h area c (laws.start c' k) = start c k
 reached_in_support b s h area c (laws.step a c' r k) = step a c (reached_in_support b s h area a r) (mentions_reads b s h c a k)
 
@@ -94,7 +94,7 @@ pub pending_in_book : (b : Book) (s : CellAreas) → IsSupportOf b s → (old ne
 pending_in_book b s h old new area k c = (λ (m : In c new). to ((k c).0 m), λ (m : Pending b (λ a. In a old) (λ a. is_inside area a ≡ true) c). (k c).1 (from m))
   where
     to : IsPendingAfter s old area c → Pending b (λ a. In a old) (λ a. is_inside area a ≡ true) c
-    to m = (cell_formula b s h c m.0, ⊎_elim (λ (n : In c old). inl n) (λ (n : Reached s area c). inr (reached_in_book b s h area c n)) m.1)
+    to m = (cell_formula b s h c m.0, ⊎_elim (λ (n : In c old). inl n) (λ (n : Reached s (is_inside area) c). inr (reached_in_book b s h area c n)) m.1)
 
     from : Pending b (λ a. In a old) (λ a. is_inside area a ≡ true) c → IsPendingAfter s old area c
     from m = (formula_cell b s h c m.0.0 m.0.1, ⊎_elim (λ (n : In c old). inl n) (λ (n : laws.Reached b (λ a. is_inside area a ≡ true) c). inr (reached_in_support b s h area c n)) m.1)

@@ -6,10 +6,11 @@ use Rattle.std.proofs.lemmas.List.Elements.{All-head, All-tail}
 use Rattle.cell_values.specs.declared.address.Addr.{Addr}
 use Rattle.cell_values.specs.declared.address.Area.{Area}
 use Rattle.cell_values.specs.Areas.{IsArea}
+use Rattle.cell_values.specs.Order.{entry_at}
 use Rattle.support_graph.specs.declared.block.Key.{Key}
 use Rattle.support_graph.specs.declared.search.Search.{Search}
 use Rattle.support_graph.specs.Blocks.{halves, is_cut, is_block_of}
-use Rattle.support_graph.specs.Support.{CellAreas, areas_of, is_read, IsIndexed}
+use Rattle.support_graph.specs.Support.{CellAreas, is_read, IsIndexed}
 use Rattle.support_graph.specs.Steps.{Visits, InBlocks, InColumn, block_at, meets, ReadsRows}
 use Rattle.support_graph.proofs.Halving.{Meet, cut_from_meet, meet_from_cut}
 use Rattle.support_graph.proofs.Visits.{visits_seen, visits_then, visits_as}
@@ -77,16 +78,16 @@ block_meets sheet col top bottom level number low high r h =
     and_both (at && (nat_le r.top bottom && nat_le top r.bottom)) wide (and_both at (nat_le r.top bottom && nat_le top r.bottom) (and_first at wide place) (and_both (nat_le r.top bottom) (nat_le top r.bottom) above below)) (and_second at wide place)
 
 reads_rows : (s : CellAreas) (keys : List Key) → IsIndexed s keys → (sheet col top bottom : ℕ) (c : Addr) → InColumn keys sheet col top bottom 16 c → ReadsRows s sheet col top bottom c
-reads_rows s keys indexed sheet col top bottom c m = go (areas_of s c) (sym (indexed.index (record { block = block_at sheet col m.level m.there.number; cell = c })) ∙ m.there.there)
+reads_rows s keys indexed sheet col top bottom c m = go (entry_at s c) (sym (indexed.index (record { block = block_at sheet col m.level m.there.number; cell = c })) ∙ m.there.there)
   where
     go : (o : Option (List Area)) → is_read o (block_at sheet col m.level m.there.number) ≡ true → IsSomeAnd o (λ areas. list_any (meets sheet col top bottom) areas ≡ true)
     go None e = cc
     go (Some areas) e = any_more (λ r. is_block_of r (block_at sheet col m.level m.there.number)) (meets sheet col top bottom) (block_meets sheet col top bottom m.level m.there.number m.there.from m.there.to) areas e
 
 rows_read : (s : CellAreas) (keys : List Key) → IsIndexed s keys → (sheet col top bottom : ℕ) → top ≤ bottom → (c : Addr) → ReadsRows s sheet col top bottom c → InColumn keys sheet col top bottom 16 c
-rows_read s keys indexed sheet col top bottom w c h = go (areas_of s c) refl h (indexed.areas c)
+rows_read s keys indexed sheet col top bottom w c h = go (entry_at s c) refl h (indexed.areas c)
   where
-    found : (areas : List Area) (r : Area) → IsArea r → meets sheet col top bottom r ≡ true → ((q : Area → Bool) → q r ≡ true → list_any q areas ≡ true) → areas_of s c ≡ Some areas → InColumn keys sheet col top bottom 16 c
+    found : (areas : List Area) (r : Area) → IsArea r → meets sheet col top bottom r ≡ true → ((q : Area → Bool) → q r ≡ true → list_any q areas ≡ true) → entry_at s c ≡ Some areas → InColumn keys sheet col top bottom 16 c
     found areas r good h lift e =
         let at = r.sheet == sheet in
         let tall = nat_le r.top bottom && nat_le top r.bottom in
@@ -115,7 +116,7 @@ rows_read s keys indexed sheet col top bottom w c h = go (areas_of s c) refl h (
           };
         }
 
-    go : (o : Option (List Area)) → areas_of s c ≡ o → IsSomeAnd o (λ areas. list_any (meets sheet col top bottom) areas ≡ true) → IfSome o (All IsArea) → InColumn keys sheet col top bottom 16 c
+    go : (o : Option (List Area)) → entry_at s c ≡ o → IsSomeAnd o (λ areas. list_any (meets sheet col top bottom) areas ≡ true) → IfSome o (All IsArea) → InColumn keys sheet col top bottom 16 c
     go None e h good = elim h [ ]
     go (Some areas) e h good = (let p = one_passes (meets sheet col top bottom) areas good h in found areas p.0 p.1 p.2 p.3 e)
 

@@ -8,9 +8,9 @@ use Rattle.support_graph.specs.declared.block.Key.{Key}
 use Rattle.support_graph.specs.declared.search.Search.{Search}
 use Rattle.support_graph.specs.Blocks.{same_block, has_key}
 use Rattle.support_graph.specs.Support.{CellAreas, IsIndexed}
-use Rattle.support_graph.specs.Steps.{Visits, AreSeen, AreRead, InBlocks}
+use Rattle.support_graph.specs.Steps.{IsMet, Visits, AreSeen, AreRead, InBlocks}
 use Rattle.support_graph.proofs.Orders.{block_cmp, is_eq-block, same_block-true}
-use Rattle.support_graph.proofs.Visits.{visits_seen}
+use Rattle.support_graph.proofs.Visits.{visits_seen, stays_met}
 use Rattle.support_graph.proofs.Truths.{any_same, not_false}
 
 -- a block more, whose cells were visited
@@ -18,9 +18,9 @@ pub one_done : (keys : List Key) (b : Block) (old new : List Block) (s t : Searc
     → AreSeen keys old s → Visits (InBlocks keys b b.number) s t → AreSeen keys new t
 one_done keys b old new s t h seen v q c m k = go (same_block b q) refl (sym (any_same block_cmp same_block is_eq-block q new) ∙ h q ∙ (λ i. cond (is_eq-block b q i) true (any_same block_cmp same_block is_eq-block q old i)) ∙ refl) m
   where
-    go : (p : Bool) → same_block b q ≡ p → list_any (same_block q) new ≡ cond (same_block b q) true (list_any (same_block q) old) → list_any (same_block q) new ≡ true → In c t.seen.keys
-    go true e f g = (let same = same_block-true b q e in (v.seen c).1 (inr (record { number = b.number; from = omega arith; to = omega arith; there = subst (λ z. has_key keys (record { block = z; cell = c }) ≡ true) (sym same) k })))
-    go false e f g = (v.seen c).1 (inl (seen q c (sym (f ∙ (λ i. cond (e i) true (list_any (same_block q) old))) ∙ g) k))
+    go : (p : Bool) → same_block b q ≡ p → list_any (same_block q) new ≡ cond (same_block b q) true (list_any (same_block q) old) → list_any (same_block q) new ≡ true → IsMet t c
+    go true e f g = (let same = same_block-true b q e in v.found c (record { number = b.number; from = omega arith; to = omega arith; there = subst (λ z. has_key keys (record { block = z; cell = c }) ≡ true) (sym same) k }))
+    go false e f g = stays_met (InBlocks keys b b.number) s t v c (seen q c (sym (f ∙ (λ i. cond (e i) true (list_any (same_block q) old))) ∙ g) k)
 
 -- a block that was visited
 pub done_before : (keys : List Key) (b : Block) (blocks : List Block) (s : Search) → false ≡ not (list_any (λ x. is_eq (block_cmp b x)) blocks) → AreSeen keys blocks s → Visits (InBlocks keys b b.number) s s
@@ -29,7 +29,7 @@ done_before keys b blocks s h seen = visits_seen (InBlocks keys b b.number) s ea
     there : list_any (same_block b) blocks ≡ true
     there = sym (any_same block_cmp same_block is_eq-block b blocks) ∙ not_false (list_any (λ x. is_eq (block_cmp b x)) blocks) (sym h)
 
-    each : (c : Addr) → InBlocks keys b b.number c → In c s.seen.keys
+    each : (c : Addr) → InBlocks keys b b.number c → IsMet s c
     each c m = (let l = m.from in let r = m.to in let same : m.number ≡ b.number = omega (arith, l, r) in seen b c there (subst (λ n. has_key keys (record { block = record b { number = n }; cell = c }) ≡ true) same m.there))
 
 -- the same blocks, and more cells seen

@@ -4,12 +4,13 @@ pub mod Orders
 pub mod Keys
 pub mod Cells
 pub mod Visits
-pub mod Ascending
 pub mod Ranges
 pub mod Columns
 pub mod Readers
 pub mod Dependents
+pub mod Lists
 pub mod Spans
 pub mod Reach
+pub mod Gone
 pub mod Books
 pub mod Done

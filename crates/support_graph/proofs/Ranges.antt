@@ -5,13 +5,14 @@ use Rattle.std.specs.List.{filter}
 use Rattle.std.specs.declared.ops.Bound.TheVariants.{Included, Excluded}
 use Rattle.std.specs.BTreeMap.Range.{range_contains}
 use Rattle.cell_values.specs.declared.address.Addr.{Addr}
+use Rattle.cell_values.proofs.Order.{cmp}
 use Rattle.demand_spec.specs.Laws.{In}
 use Rattle.support_graph.specs.declared.block.Block.{Block}
 use Rattle.support_graph.specs.declared.block.Key.{Key}
 use Rattle.support_graph.specs.declared.search.Search.{Search}
 use Rattle.support_graph.specs.Blocks.{same_key, has_key, key_before}
 use Rattle.support_graph.specs.Steps.{Visits, InBlocks}
-use Rattle.support_graph.proofs.Orders.{addr_cmp, block_cmp, key_cmp, same_key-true, same_key-refl}
+use Rattle.support_graph.proofs.Orders.{block_cmp, key_cmp, same_key-true, same_key-refl}
 use Rattle.support_graph.proofs.Visits.{visits_as}
 use Rattle.support_graph.proofs.Truths.{not_true, or_right, and_first, and_second, and_both}
 
@@ -29,12 +30,12 @@ is_le-both o p h k = is_le-then o p k ∙ h
 zero_first : (n : ℕ) → is_le (nat_cmp 0 n) ≡ true
 zero_first n = grind arith
 
-zero_addr_first : (c : Addr) → is_le (addr_cmp zero_addr c) ≡ true
+zero_addr_first : (c : Addr) → is_le (cmp zero_addr c) ≡ true
 zero_addr_first c = is_le-both (nat_cmp 0 c.sheet) (ordering_then (nat_cmp 0 c.row) (nat_cmp 0 c.col)) (zero_first c.sheet) (is_le-both (nat_cmp 0 c.row) (nat_cmp 0 c.col) (zero_first c.row) (zero_first c.col))
 
 -- a key stands behind the first of a block exactly where its block does
 from_block : (b : Block) (k : Key) → is_le (key_cmp (key_before b) k) ≡ is_le (block_cmp b k.block)
-from_block b k = is_le-then (block_cmp b k.block) (addr_cmp zero_addr k.cell) (zero_addr_first k.cell)
+from_block b k = is_le-then (block_cmp b k.block) (cmp zero_addr k.cell) (zero_addr_first k.cell)
 
 -- what stands between two things that begin alike begins so too
 between_then : (o p q : Ordering) → is_le (ordering_then o p) ≡ true → is_le (ordering_then o q) ≡ false → (o ≡ Equal) × (is_le p ≡ true) × (is_le q ≡ false)

@@ -5,9 +5,10 @@ use Rattle.std.specs.List.{list_any}
 use Rattle.cell_values.specs.declared.address.Addr.{Addr}
 use Rattle.cell_values.specs.declared.address.Area.{Area}
 use Rattle.cell_values.specs.Areas.{IsArea, is_inside}
+use Rattle.cell_values.specs.Order.{entry_at}
 use Rattle.support_graph.specs.declared.block.Key.{Key}
 use Rattle.support_graph.specs.declared.search.Search.{Search}
-use Rattle.support_graph.specs.Support.{CellAreas, areas_of, hold, IsIndexed, Reads}
+use Rattle.support_graph.specs.Support.{CellAreas, hold, IsIndexed, Reads}
 use Rattle.support_graph.specs.Steps.{Visits, meets, ReadsRows, ReadsArea}
 use Rattle.support_graph.proofs.Visits.{visits_seen, visits_then, visits_as}
 use Rattle.support_graph.proofs.Columns.{one_passes, any_more}
@@ -54,7 +55,7 @@ from_inside r a h =
 
 -- no area has a row behind the last one
 pub none_reads : (s : CellAreas) (keys : List Key) → IsIndexed s keys → (a : Addr) → 65536 < a.row → (x : Search) → Visits (λ c. Reads s c a) x x
-none_reads s keys indexed a h x = visits_seen (λ c. Reads s c a) x (λ c m. absurd (go c (areas_of s c) m (indexed.areas c)))
+none_reads s keys indexed a h x = visits_seen (λ c. Reads s c a) x (λ c m. absurd (go c (entry_at s c) m (indexed.areas c)))
   where
     go : (c : Addr) (o : Option (List Area)) → IsSomeAnd o (λ areas. hold areas a ≡ true) → IfSome o (All IsArea) → ⊥
     go c None m good = elim m [ ]
@@ -66,9 +67,9 @@ first_common changed n r = record { sheet = changed.sheet; row = max r.top chang
 
 -- an area that meets the rows of a column has a cell in common with them
 common_cell : (s : CellAreas) (keys : List Key) → IsIndexed s keys → (changed : Area) → IsArea changed → (n : ℕ) → changed.left ≤ n → n ≤ changed.right → (c : Addr) → ReadsRows s changed.sheet n changed.top changed.bottom c → ReadsArea s changed (n + 1) c
-common_cell s keys indexed changed area n low high c m = go (areas_of s c) refl m (indexed.areas c)
+common_cell s keys indexed changed area n low high c m = go (entry_at s c) refl m (indexed.areas c)
   where
-    go : (o : Option (List Area)) → areas_of s c ≡ o → IsSomeAnd o (λ areas. list_any (meets changed.sheet n changed.top changed.bottom) areas ≡ true) → IfSome o (All IsArea) → ReadsArea s changed (n + 1) c
+    go : (o : Option (List Area)) → entry_at s c ≡ o → IsSomeAnd o (λ areas. list_any (meets changed.sheet n changed.top changed.bottom) areas ≡ true) → IfSome o (All IsArea) → ReadsArea s changed (n + 1) c
     go None e m good = elim m [ ]
     go (Some areas) e m good =
         let p = one_passes (meets changed.sheet n changed.top changed.bottom) areas good m in
@@ -129,7 +130,7 @@ column_readers s keys indexed changed area n low high x y z a b =
       where
         go : (m.at.col < n) ⊎ (m.at.col ≡ n) → ReadsArea s changed n c ⊎ ReadsRows s changed.sheet n changed.top changed.bottom c
         go (inl h) = inl (record { at = m.at; before = h; inside = m.inside; reads = m.reads })
-        go (inr h) = inr (subst (λ k. ReadsRows s changed.sheet k changed.top changed.bottom c) h (rows m.at m.inside (areas_of s c) m.reads))
+        go (inr h) = inr (subst (λ k. ReadsRows s changed.sheet k changed.top changed.bottom c) h (rows m.at m.inside (entry_at s c) m.reads))
 
 pub all_readers : (s : CellAreas) (changed : Area) → IsArea changed → (n : ℕ) → n ≡ changed.right + 1 → (x y : Search) → Visits (ReadsArea s changed n) x y → Visits (ReadsArea s changed 257) x y
 all_readers s changed area n e x y v = visits_as (ReadsArea s changed n) (ReadsArea s changed 257) x y

@@ -10,11 +10,12 @@ use Rattle.cell_values.specs.declared.address.Addr.{Addr}
 use Rattle.cell_values.specs.declared.address.Area.{Area}
 use Rattle.cell_values.specs.Addresses.{same_addr}
 use Rattle.cell_values.specs.Areas.{is_inside}
+use Rattle.cell_values.proofs.Order.{cmp, same_addr-true, same_addr-refl}
+use Rattle.cell_values.specs.Order.{addresses, entry_at}
 use Rattle.demand_spec.specs.Laws.{In}
 use Rattle.support_graph.specs.declared.search.Search.{Search}
-use Rattle.support_graph.specs.Support.{areas_of, listed, IsCell}
+use Rattle.support_graph.specs.Support.{listed, IsCell}
 use Rattle.support_graph.specs.Steps.{Visits}
-use Rattle.support_graph.proofs.Orders.{addr_cmp, same_addr-true, same_addr-refl}
 use Rattle.support_graph.proofs.Visits.{visits_then, visits_as}
 use Rattle.support_graph.proofs.Readers.{inside}
 use Rattle.support_graph.proofs.Cells.{Entries}
@@ -42,7 +43,7 @@ nat_not_lt_cmp : (m n : ℕ) → n ≤ m → is_lt (nat_cmp m n) ≡ false
 nat_not_lt_cmp m n h = grind (arith, h)
 
 abbrev pub between : Addr → Addr → Addr → Bool
-between a b c = range_contains addr_cmp (Included a) (Included b) c
+between a b c = range_contains cmp (Included a) (Included b) c
 
 pub inside_between : (r : Area) (a b c : Addr) → a.sheet ≡ r.sheet → a.row ≡ r.top → a.col ≡ r.left → b.sheet ≡ r.sheet → b.row ≡ r.bottom → b.col ≡ r.right → is_inside r c ≡ true → between a b c ≡ true
 inside_between r a b c e f g h k l m =
@@ -54,7 +55,7 @@ inside_between r a b c e f g h k l m =
     let w = p.right in
     let first : a.sheet ≤ c.sheet = grind (arith, s, e) in
     let last : c.sheet ≤ b.sheet = grind (arith, s, h) in
-    and_both (is_le (addr_cmp a c)) (not (is_lt (addr_cmp b c)))
+    and_both (is_le (cmp a c)) (not (is_lt (cmp b c)))
     (is_le-both (nat_cmp a.sheet c.sheet) (ordering_then (nat_cmp a.row c.row) (nat_cmp a.col c.col)) (nat_le_cmp a.sheet c.sheet first)
     (is_le-both (nat_cmp a.row c.row) (nat_cmp a.col c.col) (nat_le_cmp a.row c.row (omega (arith, f, t))) (nat_le_cmp a.col c.col (omega (arith, g, v)))))
     (ap not (not_lt_then (nat_cmp b.sheet c.sheet) (ordering_then (nat_cmp b.row c.row) (nat_cmp b.col c.col)) (nat_not_lt_cmp b.sheet c.sheet last)
@@ -64,10 +65,10 @@ inside_between r a b c e f g h k l m =
 
 pub key_is_cell : (c : Addr) (es : Entries) → In c (keys_of es) → IsCell (listed es) c
 key_is_cell c [] m = elim m [ ]
-key_is_cell c (e ∷ es) (inl p) = subst (λ q. IsSome (cond q (Some e.1.items) (areas_of (listed es) c))) (sym ((λ i. same_addr (p i) e.0) ∙ same_addr-refl e.0)) refl
+key_is_cell c (e ∷ es) (inl p) = subst (λ q. IsSome (cond q (Some e.1.items) (entry_at (listed es) c))) (sym ((λ i. same_addr (p i) e.0) ∙ same_addr-refl e.0)) refl
 key_is_cell c (e ∷ es) (inr m) = go (same_addr c e.0) (key_is_cell c es m)
   where
-    go : (q : Bool) → IsCell (listed es) c → IsSome (cond q (Some e.1.items) (areas_of (listed es) c))
+    go : (q : Bool) → IsCell (listed es) c → IsSome (cond q (Some e.1.items) (entry_at (listed es) c))
     go true k = refl
     go false k = k
 
@@ -75,7 +76,7 @@ pub cell_is_key : (c : Addr) (es : Entries) → IsCell (listed es) c → In c (k
 cell_is_key c [] m = cc
 cell_is_key c (e ∷ es) m = go (same_addr c e.0) refl m (cell_is_key c es)
   where
-    go : (q : Bool) → same_addr c e.0 ≡ q → IsSome (cond q (Some e.1.items) (areas_of (listed es) c)) → (IsCell (listed es) c → In c (keys_of es)) → In c (keys_of (e ∷ es))
+    go : (q : Bool) → same_addr c e.0 ≡ q → IsSome (cond q (Some e.1.items) (entry_at (listed es) c)) → (IsCell (listed es) c → In c (keys_of es)) → In c (keys_of (e ∷ es))
     go true p k f = inl (same_addr-true c e.0 p)
     go false p k f = inr (f k)
 

@@ -3,10 +3,10 @@ use Rattle.std.proofs.Common.{◌≡◌, ◌+◌, ◌≤◌, Bool, true, false, 
 use Rattle.std.specs.List.{list_any, filter}
 use Rattle.cell_values.specs.declared.address.Addr.{Addr}
 use Rattle.cell_values.specs.Addresses.{same_addr}
+use Rattle.cell_values.proofs.Order.{cmp, same_cmp, same_addr-true, same_addr-refl}
 use Rattle.demand_spec.specs.Laws.{In}
 use Rattle.support_graph.specs.declared.search.Search.{Search}
-use Rattle.support_graph.specs.Steps.{Visits, unseen}
-use Rattle.support_graph.proofs.Orders.{addr_cmp, is_eq-addr, same_addr-true, same_addr-refl}
+use Rattle.support_graph.specs.Steps.{IsMet, Visits, unseen}
 use Rattle.support_graph.proofs.Truths.{any_same, or_right, true_false, not_true, not_false}
 
 -- a list has a cell exactly where the test finds it
@@ -38,36 +38,46 @@ pub in_right : (c : Addr) (xs ys : List Addr) → In c ys → In c (xs ++ ys)
 in_right c [] ys h = h
 in_right c (x ∷ xs) ys h = inr (in_right c xs ys h)
 
--- what is seen already is visited
-pub visits_seen : (P : Addr → Type 0) (s : Search) → ((c : Addr) → P c → In c s.seen.keys) → Visits P s s
+-- all of which `P` holds were met
+pub visits_seen : (P : Addr → Type 0) (s : Search) → ((c : Addr) → P c → IsMet s c) → Visits P s s
 visits_seen P s h = record {
-  seen = λ c. (λ (k : In c s.seen.keys). inl k, λ (k : In c s.seen.keys ⊎ P c). ⊎_elim (λ (m : In c s.seen.keys). m) (λ (m : P c). h c m) k);
+  pending = refl;
+  stays = λ c k. k;
+  found = h;
+  only = λ c k. inl k;
   queued = λ c k. inl k;
   kept = λ c k. k;
   known = λ c k. inl k;
   ends = λ cells k. omega arith;
 }
 
+-- what was met stays so
+pub stays_met : (P : Addr → Type 0) (s t : Search) → Visits P s t → (c : Addr) → IsMet s c → IsMet t c
+stays_met P s t v c (inl k) = inl (v.stays c k)
+stays_met P s t v c (inr k) = inr (subst (In c) (sym v.pending) k)
+
 pub visits_then : (P Q : Addr → Type 0) (r s t : Search) → Visits P r s → Visits Q s t → Visits (λ c. P c ⊎ Q c) r t
 visits_then P Q r s t a b = record {
-  seen = λ c. (to c, from c);
+  pending = b.pending ∙ a.pending;
+  stays = λ c k. b.stays c (a.stays c k);
+  found = found;
+  only = λ c k. ⊎_elim (λ (m : In c s.seen.keys). ⊎_elim (λ (n : In c r.seen.keys). inl n) (λ (n : P c). inr (inl n)) (a.only c m)) (λ (m : Q c). inr (inr m)) (b.only c k);
   queued = λ c k. ⊎_elim (λ (m : In c s.seen.keys). ⊎_elim (λ (n : In c r.seen.keys). inl n) (λ (n : In c s.todo.items). inr (b.kept c n)) (a.queued c m)) (λ (m : In c t.todo.items). inr m) (b.queued c k);
   kept = λ c k. b.kept c (a.kept c k);
-  known = λ c k. ⊎_elim (λ (m : In c s.todo.items). ⊎_elim (λ (n : In c r.todo.items). inl n) (λ (n : In c s.seen.keys). inr ((b.seen c).1 (inl n))) (a.known c m)) (λ (m : In c t.seen.keys). inr m) (b.known c k);
+  known = λ c k. ⊎_elim (λ (m : In c s.todo.items). ⊎_elim (λ (n : In c r.todo.items). inl n) (λ (n : In c s.seen.keys). inr (b.stays c n)) (a.known c m)) (λ (m : In c t.seen.keys). inr m) (b.known c k);
   ends = λ cells k. (let m = a.ends cells (λ c h. k c (inl h)) in let n = b.ends cells (λ c h. k c (inr h)) in omega (arith, m, n));
 }
   where
-    to : (c : Addr) → In c t.seen.keys → In c r.seen.keys ⊎ (P c ⊎ Q c)
-    to c k = ⊎_elim (λ (m : In c s.seen.keys). ⊎_elim (λ (n : In c r.seen.keys). inl n) (λ (n : P c). inr (inl n)) ((a.seen c).0 m)) (λ (m : Q c). inr (inr m)) ((b.seen c).0 k)
-
-    from : (c : Addr) → In c r.seen.keys ⊎ (P c ⊎ Q c) → In c t.seen.keys
-    from c (inl k) = (b.seen c).1 (inl ((a.seen c).1 (inl k)))
-    from c (inr (inl k)) = (b.seen c).1 (inl ((a.seen c).1 (inr k)))
-    from c (inr (inr k)) = (b.seen c).1 (inr k)
+    found : (c : Addr) → P c ⊎ Q c → IsMet t c
+    found c (inl k) = stays_met Q s t b c (a.found c k)
+    found c (inr k) = b.found c k
 
 pub visits_as : (P Q : Addr → Type 0) (s t : Search) → ((c : Addr) → P c → Q c) → ((c : Addr) → Q c → P c) → Visits P s t → Visits Q s t
 visits_as P Q s t f g a = record {
-  seen = λ c. (λ (k : In c t.seen.keys). ⊎_elim (λ (m : In c s.seen.keys). inl m) (λ (m : P c). inr (f c m)) ((a.seen c).0 k), λ (k : In c s.seen.keys ⊎ Q c). (a.seen c).1 (⊎_elim (λ (m : In c s.seen.keys). inl m) (λ (m : Q c). inr (g c m)) k));
+  pending = a.pending;
+  stays = a.stays;
+  found = λ c k. a.found c (g c k);
+  only = λ c k. ⊎_elim (λ (m : In c s.seen.keys). inl m) (λ (m : P c). inr (f c m)) (a.only c k);
   queued = a.queued;
   kept = a.kept;
   known = a.known;
@@ -104,17 +114,20 @@ fewer_pass p q cell h a b (x ∷ xs) (inr k) = go (p x) (q x) refl refl (fewer_p
     go false false e f k = k
     go false true e f k = true_false (p x) (h x f) e
 
-pub in_seen : (cell : Addr) (old new : List Addr) → ((q : Addr) → list_any (λ x. is_eq (addr_cmp q x)) new ≡ cond (is_eq (addr_cmp cell q)) true (list_any (λ x. is_eq (addr_cmp q x)) old)) → (q : Addr) → list_any (same_addr q) new ≡ (same_addr cell q || list_any (same_addr q) old)
-in_seen cell old new h q = sym (any_same addr_cmp same_addr is_eq-addr q new) ∙ h q ∙ (λ i. cond (is_eq-addr cell q i) true (any_same addr_cmp same_addr is_eq-addr q old i)) ∙ go (same_addr cell q)
+pub in_seen : (cell : Addr) (old new : List Addr) → ((q : Addr) → list_any (λ x. is_eq (cmp q x)) new ≡ cond (is_eq (cmp cell q)) true (list_any (λ x. is_eq (cmp q x)) old)) → (q : Addr) → list_any (same_addr q) new ≡ (same_addr cell q || list_any (same_addr q) old)
+in_seen cell old new h q = sym (any_same cmp same_addr same_cmp q new) ∙ h q ∙ (λ i. cond (same_cmp cell q i) true (any_same cmp same_addr same_cmp q old i)) ∙ go (same_addr cell q)
   where
     go : (b : Bool) → cond b true (list_any (same_addr q) old) ≡ (b || list_any (same_addr q) old)
     go true = refl
     go false = refl
 
 -- a cell that was not seen is visited
-visit_absent : (cell : Addr) (s t : Search) → list_any (same_addr cell) s.seen.keys ≡ false → ((q : Addr) → list_any (same_addr q) t.seen.keys ≡ (same_addr cell q || list_any (same_addr q) s.seen.keys)) → t.todo.items ≡ s.todo.items ++ cell ∷ [] → Visits (λ c. c ≡ cell) s t
-visit_absent cell s t absent seen todo = record {
-  seen = λ c. (to c, from c);
+visit_absent : (cell : Addr) (s t : Search) → t.pending.now ≡ s.pending.now → list_any (same_addr cell) s.seen.keys ≡ false → ((q : Addr) → list_any (same_addr q) t.seen.keys ≡ (same_addr cell q || list_any (same_addr q) s.seen.keys)) → t.todo.items ≡ s.todo.items ++ cell ∷ [] → Visits (λ c. c ≡ cell) s t
+visit_absent cell s t pending absent seen todo = record {
+  pending = pending;
+  stays = λ c k. from c (inl k);
+  found = λ c e. inl (from c (inr e));
+  only = to;
   queued = λ c k. queued c (to c k);
   kept = λ c k. subst (In c) (sym todo) (in_left c s.todo.items (cell ∷ []) k);
   known = λ c k. known c (in_append c s.todo.items (cell ∷ []) (subst (In c) todo k));
@@ -154,20 +167,22 @@ visit_absent cell s t absent seen todo = record {
         let b : length t.todo.items ≡ length s.todo.items + 1 = ap length todo ∙ length-append s.todo.items (cell ∷ []) in
         omega (arith, a, b)
 
-pub visit_new : (cell : Addr) (s t : Search) → true ≡ not (list_any (λ x. is_eq (addr_cmp cell x)) s.seen.keys)
-    → ((q : Addr) → list_any (λ x. is_eq (addr_cmp q x)) t.seen.keys ≡ cond (is_eq (addr_cmp cell q)) true (list_any (λ x. is_eq (addr_cmp q x)) s.seen.keys)) → t.todo.items ≡ s.todo.items ++ cell ∷ [] → Visits (λ c. c ≡ cell) s t
-visit_new cell s t absent seen todo = visit_absent cell s t (sym (any_same addr_cmp same_addr is_eq-addr cell s.seen.keys) ∙ not_true (list_any (λ x. is_eq (addr_cmp cell x)) s.seen.keys) (sym absent)) (in_seen cell s.seen.keys t.seen.keys seen) todo
+pub visit_new : (cell : Addr) (s t : Search) → t.pending.now ≡ s.pending.now → true ≡ not (list_any (λ x. is_eq (cmp cell x)) s.seen.keys)
+    → ((q : Addr) → list_any (λ x. is_eq (cmp q x)) t.seen.keys ≡ cond (is_eq (cmp cell q)) true (list_any (λ x. is_eq (cmp q x)) s.seen.keys)) → t.todo.items ≡ s.todo.items ++ cell ∷ [] → Visits (λ c. c ≡ cell) s t
+visit_new cell s t pending absent seen todo = visit_absent cell s t pending (sym (any_same cmp same_addr same_cmp cell s.seen.keys) ∙ not_true (list_any (λ x. is_eq (cmp cell x)) s.seen.keys) (sym absent)) (in_seen cell s.seen.keys t.seen.keys seen) todo
 
 -- a cell that was seen stays so
-pub visit_again : (cell : Addr) (s t : Search) → false ≡ not (list_any (λ x. is_eq (addr_cmp cell x)) s.seen.keys) → t.seen.keys ≡ s.seen.keys → t.todo.items ≡ s.todo.items → Visits (λ c. c ≡ cell) s t
-visit_again cell s t there same todo = record {
-  seen = λ c. (λ (k : In c t.seen.keys). inl (subst (In c) same k), from c);
+pub visit_again : (cell : Addr) (s t : Search) → t.pending.now ≡ s.pending.now → false ≡ not (list_any (λ x. is_eq (cmp cell x)) s.seen.keys) → t.seen.keys ≡ s.seen.keys → t.todo.items ≡ s.todo.items → Visits (λ c. c ≡ cell) s t
+visit_again cell s t pending there same todo = record {
+  pending = pending;
+  stays = λ c k. subst (In c) (sym same) k;
+  found = λ c e. inl (found c e);
+  only = λ c k. inl (subst (In c) same k);
   queued = λ c k. inl (subst (In c) same k);
   kept = λ c k. subst (In c) (sym todo) k;
   known = λ c k. inl (subst (In c) todo k);
   ends = λ cells k. (let e : unseen cells t ≡ unseen cells s = λ i. length (filter (λ c. not (list_any (same_addr c) (same i))) cells) + length (todo i) in omega (arith, e));
 }
   where
-    from : (c : Addr) → In c s.seen.keys ⊎ (c ≡ cell) → In c t.seen.keys
-    from c (inl k) = subst (In c) (sym same) k
-    from c (inr e) = subst (In c) (sym same) (has_in c s.seen.keys ((λ i. list_any (same_addr (e i)) s.seen.keys) ∙ sym (any_same addr_cmp same_addr is_eq-addr cell s.seen.keys) ∙ not_false (list_any (λ x. is_eq (addr_cmp cell x)) s.seen.keys) (sym there)))
+    found : (c : Addr) → c ≡ cell → In c t.seen.keys
+    found c e = subst (In c) (sym same) (has_in c s.seen.keys ((λ i. list_any (same_addr (e i)) s.seen.keys) ∙ sym (any_same cmp same_addr same_cmp cell s.seen.keys) ∙ not_false (list_any (λ x. is_eq (cmp cell x)) s.seen.keys) (sym there)))

@@ -1,11 +1,11 @@
 -- The support of a book: the formula cells in order, each with the areas that its formula names.
-use Rattle.std.specs.Prelude.{◌≡◌, Bool, true, false, cond, List, [], ◌∷◌, map, Option, Some, None, IsSome, IsSomeAnd, option_map, IfSome, All}
+use Rattle.std.specs.Prelude.{◌≡◌, Bool, true, false, List, [], ◌∷◌, Option, Some, None, IsSome, IsSomeAnd, option_map, IfSome, All}
 use Rattle.std.specs.List.{list_any, filter}
 use Rattle.std.specs.Global.{Vec}
 use Rattle.cell_values.specs.declared.address.Addr.{Addr}
 use Rattle.cell_values.specs.declared.address.Area.{Area}
-use Rattle.cell_values.specs.Addresses.{same_addr, IsBefore}
 use Rattle.cell_values.specs.Areas.{is_inside, IsArea}
+use Rattle.cell_values.specs.Order.{InOrder, addresses, entry_at}
 use Rattle.formula_trees.specs.Mentions.{areas}
 use Rattle.demand_spec.specs.Book.{Book, formula_at}
 use Rattle.support_graph.specs.declared.block.Block.{Block}
@@ -16,38 +16,24 @@ use Rattle.support_graph.specs.Blocks.{is_block_in, has_key}
 abbrev pub CellAreas : Type 0
 CellAreas = List (Addr × List Area)
 
--- the areas of a cell, none where the cell is not there
-abbrev pub areas_of : CellAreas → Addr → Option (List Area)
-areas_of [] c = None
-areas_of (e ∷ rest) c = cond (same_addr c e.0) (Some e.1) (areas_of rest c)
-
 -- one of the areas holds the address
 abbrev pub hold : List Area → Addr → Bool
 hold areas a = list_any (λ r. is_inside r a) areas
 
 -- the cells with an area that holds the address, in order
 abbrev pub dependents_of : CellAreas → Addr → List Addr
-dependents_of s a = map (λ e. e.0) (filter (λ e. hold e.1 a) s)
+dependents_of s a = addresses (filter (λ e. hold e.1 a) s)
 
 abbrev pub IsCell : CellAreas → Addr → Type 0
-IsCell s c = IsSome (areas_of s c)
+IsCell s c = IsSome (entry_at s c)
 
 -- the cell has an area that holds `a`
 abbrev pub Reads : CellAreas → Addr → Addr → Type 0
-Reads s c a = IsSomeAnd (areas_of s c) (λ areas. hold areas a ≡ true)
+Reads s c a = IsSomeAnd (entry_at s c) (λ areas. hold areas a ≡ true)
 
 -- the book has a formula exactly where the support has a cell, and there the areas are those of the formula
 abbrev pub IsSupportOf : Book → CellAreas → Type 0
-IsSupportOf b s = (c : Addr) → areas_of s c ≡ option_map (areas c) (formula_at b c)
-
-abbrev pub IsBeforeAll : Addr → CellAreas → Type 0
-IsBeforeAll a [] = Unit {0}
-IsBeforeAll a (e ∷ rest) = IsBefore a e.0 × IsBeforeAll a rest
-
--- each cell stands before all later ones
-abbrev pub InOrder : CellAreas → Type 0
-InOrder [] = Unit {0}
-InOrder (e ∷ rest) = IsBeforeAll e.0 rest × InOrder rest
+IsSupportOf b s = (c : Addr) → entry_at s c ≡ option_map (areas c) (formula_at b c)
 
 -- one of the areas of a cell is cut into blocks of which this is one
 abbrev pub is_read : Option (List Area) → Block → Bool
@@ -61,6 +47,6 @@ listed (e ∷ rest) = (e.0, e.1.items) ∷ listed rest
 
 -- cells in order with areas of sheets, and keys that are exactly the blocks that the areas are cut into
 pub record IsIndexed (s : CellAreas) (keys : List Key) : Type 0 where
-  pub in_order : InOrder s
-  pub areas : (c : Addr) → IfSome (areas_of s c) (All IsArea)
-  pub index : (k : Key) → has_key keys k ≡ is_read (areas_of s k.cell) k.block
+  pub in_order : InOrder (addresses s)
+  pub areas : (c : Addr) → IfSome (entry_at s c) (All IsArea)
+  pub index : (k : Key) → has_key keys k ≡ is_read (entry_at s k.cell) k.block

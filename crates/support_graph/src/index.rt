@@ -155,7 +155,7 @@ pub(crate) fn visit_column(
     col: u16,
     top: u32,
     bottom: u32,
-    search: &mut Search,
+    search: &mut Search<'_>,
 ) -> Result<(), AllocError>
     requires rows { top ≤ bottom }
     requires few { bottom ≤ 65536 }
@@ -183,7 +183,7 @@ pub(crate) fn visit_row(
     index: &BTreeSet<Key>,
     addr: Addr,
     done: &mut BTreeSet<Block>,
-    search: &mut Search,
+    search: &mut Search<'_>,
 ) -> Result<(), AllocError>
     requires few { addr.row ≤ 65536 }
     requires done { AreSeen index.now.keys done.old.keys search.old }
@@ -209,7 +209,7 @@ fn visit_block_once(
     index: &BTreeSet<Key>,
     block: Block,
     done: &mut BTreeSet<Block>,
-    search: &mut Search,
+    search: &mut Search<'_>,
 ) -> Result<(), AllocError>
     requires few { block.number ≤ 65536 }
     requires done { AreSeen index.now.keys done.old.keys search.old }
@@ -229,7 +229,7 @@ fn visit_blocks(
     index: &BTreeSet<Key>,
     first: Block,
     last: u32,
-    search: &mut Search,
+    search: &mut Search<'_>,
 ) -> Result<(), AllocError>
     requires forward { first.number ≤ last }
     requires few { last ≤ 65536 }

@@ -4,6 +4,7 @@
 mod block;
 mod index;
 mod search;
+mod sorted;
 pub mod stale;
 pub mod support;
 #[cfg(test)]

@@ -1,42 +1,48 @@
 //! A search from cells to the cells that read them.
 
-ghost use Rattle.std.specs.Prelude.{◌≡◌, ◌⊎◌, ◌↔◌, [], OnOk, IfOk};
+ghost use Rattle.std.specs.Prelude.{◌≡◌, Bool, [], OnOk, IfOk};
 ghost use Rattle.cell_values.specs.declared.address.Addr.{Addr};
-ghost use Rattle.cell_values.specs.declared.address.Area.{Area};
-ghost use Rattle.cell_values.specs.Areas.{IsArea};
-ghost use Rattle.demand_spec.specs.Laws.{In};
+ghost use Rattle.cell_values.specs.Areas.{IsArea, is_inside};
+ghost use Rattle.cell_values.specs.Order.{InOrder};
+ghost use Rattle.support_graph.specs.Pending.{among};
 ghost use Rattle.support_graph.specs.Support.{IsCell};
-ghost use Rattle.support_graph.specs.Pending.{InOrder};
 ghost use Rattle.support_graph.specs.Steps.{IsSearch, Visits};
 
+use crate::sorted::is_among;
 use crate::support::Support;
 use cell_values::{Addr, Area};
 use std::alloc::{AllocError, Global};
 use std::collections::BTreeSet;
 
-/// A search over a support: the cells seen so far, and those of them whose dependents are still to be
-/// visited.
+/// A search over a support: the cells that were pending before, which are not visited, the cells seen so
+/// far, and those of them whose dependents are still to be visited.
 #[derive(Drop)]
-pub(crate) struct Search {
+pub(crate) struct Search<'a> {
+    pub pending: &'a [Addr],
     pub seen: BTreeSet<Addr>,
     pub todo: Vec<Addr>,
 }
 
-impl Search {
+impl<'a> Search<'a> {
     /// No cell seen.
-    pub(crate) fn new(alloc: Global) -> Search
-        ensures { (result.seen.keys ≡ []) × (result.todo.items ≡ []) }
+    pub(crate) fn new(alloc: Global, pending: &'a [Addr]) -> Search<'a>
+        ensures pending { result.pending.now ≡ pending.now }
+        ensures none { (result.seen.keys ≡ []) × (result.todo.items ≡ []) }
     {
         Search {
+            pending,
             seen: BTreeSet::new(alloc),
             todo: Vec::new(alloc),
         }
     }
 
-    /// Sees a cell. The dependents of a new one are to be visited.
+    /// Sees a cell that was not pending. The dependents of a new one are to be visited.
     pub(crate) fn visit(&mut self, cell: Addr) -> Result<(), AllocError>
         ensures { OnOk result (Visits (λ c. c ≡ cell) self.old self.new) }
     {
+        if is_among(self.pending, cell) {
+            return Ok(());
+        }
         if self.seen.insert(cell)? {
             self.todo.push(cell)?;
         }
@@ -47,16 +53,43 @@ impl Search {
     pub(crate) fn start(&mut self, support: &Support, changed: Area) -> Result<(), AllocError>
         requires area { IsArea changed }
         requires none { (self.old.seen.keys ≡ []) × (self.old.todo.items ≡ []) }
-        ensures { OnOk result (IsSearch support.now changed self.new) }
+        ensures pending { OnOk result (self.new.pending.now ≡ self.old.pending.now) }
+        ensures search { OnOk result (IsSearch support.now (is_inside changed) self.new) }
     {
         support.visit_cells(changed, self)?;
         support.visit_readers(changed, self)
     }
 
-    /// Visits dependents until all that can be reached are seen. A block of the support is visited once,
+    /// Visits some cells, as far as the support has them, and those that read them.
+    pub(crate) fn start_from(&mut self, support: &Support, cells: &[Addr]) -> Result<(), AllocError>
+        requires { (self.old.seen.keys ≡ []) × (self.old.todo.items ≡ []) }
+        ensures pending { OnOk result (self.new.pending.now ≡ self.old.pending.now) }
+        ensures search { OnOk result (IsSearch support.now (among cells.now) self.new) }
+    {
+        let mut done = BTreeSet::new(*self.todo.allocator());
+        for cell in cells {
+            self.visit_cell(support, *cell)?;
+            support.visit_dependents(*cell, &mut done, self)?;
+        }
+        Ok(())
+    }
+
+    /// Visits a cell if the support has it.
+    fn visit_cell(&mut self, support: &Support, cell: Addr) -> Result<(), AllocError>
+        ensures { OnOk result (Visits (λ c. (c ≡ cell) × IsCell support.now c) self.old self.new) }
+    {
+        if support.has(cell) {
+            self.visit(cell)
+        } else {
+            Ok(())
+        }
+    }
+
+    /// Visits dependents until all that can be reached are met. A block of the support is visited once,
     /// so large areas that many cells read cost no more than small ones.
     pub(crate) fn run(&mut self, support: &Support) -> Result<(), AllocError>
-        ensures search { OnOk result ((area : Area) → IsSearch support.now area self.old → IsSearch support.now area self.new) }
+        ensures pending { OnOk result (self.new.pending.now ≡ self.old.pending.now) }
+        ensures search { OnOk result ((from : Addr → Bool) → IsSearch support.now from self.old → IsSearch support.now from self.new) }
         ensures done { OnOk result (self.new.todo.items ≡ []) }
     {
         let mut done = BTreeSet::new(*self.todo.allocator());
@@ -64,27 +97,6 @@ impl Search {
             support.visit_dependents(cell, &mut done, self)?;
         }
         Ok(())
-    }
-
-    /// Sees those of a list of cells that the support has.
-    pub(crate) fn keep(&mut self, support: &Support, cells: &[Addr]) -> Result<(), AllocError>
-        ensures { OnOk result ((c : Addr) → In c self.new.seen.keys ↔ (In c self.old.seen.keys ⊎ (IsCell support.now c × In c cells.now))) }
-    {
-        for cell in cells {
-            self.keep_cell(support, *cell)?;
-        }
-        Ok(())
-    }
-
-    /// Sees a cell if the support has it.
-    fn keep_cell(&mut self, support: &Support, cell: Addr) -> Result<(), AllocError>
-        ensures { OnOk result ((c : Addr) → In c self.new.seen.keys ↔ (In c self.old.seen.keys ⊎ ((c ≡ cell) × IsCell support.now c))) }
-    {
-        if support.has(cell) {
-            self.visit(cell)
-        } else {
-            Ok(())
-        }
     }
 
     /// The cells seen, in order of address.

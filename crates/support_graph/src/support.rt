@@ -1,10 +1,11 @@
 //! The support of a book: its formula cells, each with the areas that its formula names.
 
-ghost use Rattle.std.specs.Prelude.{◌≡◌, true, cond, Some, None, [], ◌++◌, OnOk, OnErr, All, is_some};
+ghost use Rattle.std.specs.Prelude.{◌≡◌, true, cond, Some, None, [], ◌++◌, IfOk, OnOk, OnErr, All, is_some};
 ghost use Rattle.cell_values.specs.declared.address.Addr.{Addr};
 ghost use Rattle.cell_values.specs.Addresses.{same_addr};
-ghost use Rattle.cell_values.specs.Areas.{IsArea, cell_of, is_inside as inside};
-ghost use Rattle.support_graph.specs.Support.{areas_of, dependents_of, listed, InOrder, IsIndexed, IsCell, Reads};
+ghost use Rattle.cell_values.specs.Areas.{IsArea, cell_of, is_inside};
+ghost use Rattle.cell_values.specs.Order.{InOrder, addresses, entry_at};
+ghost use Rattle.support_graph.specs.Support.{dependents_of, listed, IsIndexed, IsCell, Reads};
 ghost use Rattle.support_graph.specs.Steps.{AreRead, ReadsArea, Visits};
 
 use crate::block::{Block, Key};
@@ -55,9 +56,9 @@ impl Support {
 
     /// Adds a cell with the areas that it reads, none at a formula such as `=1`.
     pub fn add(&mut self, cell: Addr, areas: &[Area]) -> Result<(), AllocError>
-        requires absent { areas_of self.old cell ≡ None }
+        requires absent { entry_at self.old cell ≡ None }
         requires areas { All IsArea areas.now }
-        ensures ok { OnOk result ((c : Addr) → areas_of self.new c ≡ cond (same_addr cell c) (Some areas.now) (areas_of self.old c)) }
+        ensures ok { OnOk result ((c : Addr) → entry_at self.new c ≡ cond (same_addr cell c) (Some areas.now) (entry_at self.old c)) }
         ensures err { OnErr result (self.new ≡ self.old) }
     {
         put_cell(self.alloc, &mut self.cells, &mut self.index, cell, areas)
@@ -65,7 +66,7 @@ impl Support {
 
     /// Takes out a cell. One that is not there changes nothing.
     pub fn drop_cell(&mut self, cell: Addr)
-        ensures { (c : Addr) → areas_of self.new c ≡ cond (same_addr cell c) None (areas_of self.old c) }
+        ensures { (c : Addr) → entry_at self.new c ≡ cond (same_addr cell c) None (entry_at self.old c) }
     {
         if let Some(areas) = self.cells.remove(&cell) {
             take_areas(&mut self.index, cell, &areas);
@@ -75,20 +76,30 @@ impl Support {
     /// Appends the cells with an area that holds the address, in order, each once.
     pub fn dependents(&self, addr: Addr, out: &mut Vec<Addr>) -> Result<(), AllocError>
         ensures ok { OnOk result (out.new.items ≡ out.old.items ++ dependents_of self.now addr) }
+        ensures in_order { InOrder (dependents_of self.now addr) }
         ensures err { OnErr result (out.new.items ≡ out.old.items) }
     {
         let alloc = *out.allocator();
-        let mut search = Search::new(alloc);
+        let mut search = Search::new(alloc, &[]);
         self.visit_dependents(addr, &mut BTreeSet::new(alloc), &mut search)?;
         let found = search.found(alloc)?;
         out.extend_from_slice(&found)
     }
 
-    /// Whether the cell is there.
-    pub(crate) fn has(&self, cell: Addr) -> bool
-        ensures { result ≡ is_some (areas_of self.now cell) }
+    /// Whether the cell is there. The cells stand in order.
+    pub fn has(&self, cell: Addr) -> bool
+        ensures there { result ≡ is_some (entry_at self.now cell) }
+        ensures in_order { InOrder (addresses self.now) }
     {
         self.cells.contains_key(&cell)
+    }
+
+    /// The cells in order.
+    pub(crate) fn cells(&self, alloc: Global) -> Result<Vec<Addr>, AllocError>
+        ensures cells { IfOk result (λ v. v.items ≡ addresses self.now) }
+        ensures in_order { InOrder (addresses self.now) }
+    {
+        self.cells.keys().copied().collect(alloc)
     }
 
     /// Visits the cells with an area that holds the address. Blocks that were visited before are left
@@ -97,12 +108,12 @@ impl Support {
         &self,
         addr: Addr,
         done: &mut BTreeSet<Block>,
-        search: &mut Search,
+        search: &mut Search<'_>,
     ) -> Result<(), AllocError>
         requires { AreRead self.now done.old.keys search.old }
         ensures visits { OnOk result (Visits (λ c. Reads self.now c addr) search.old search.new) }
         ensures done { OnOk result (AreRead self.now done.new.keys search.new) }
-        ensures in_order { InOrder self.now }
+        ensures in_order { InOrder (addresses self.now) }
     {
         let index = &self.index;
         if addr.row > LAST_ROW {
@@ -112,7 +123,7 @@ impl Support {
     }
 
     /// Visits the cells with an area that meets another area.
-    pub(crate) fn visit_readers(&self, changed: Area, search: &mut Search) -> Result<(), AllocError>
+    pub(crate) fn visit_readers(&self, changed: Area, search: &mut Search<'_>) -> Result<(), AllocError>
         requires { IsArea changed }
         ensures { OnOk result (Visits (ReadsArea self.now changed 257) search.old search.new) }
     {
@@ -131,9 +142,9 @@ impl Support {
     }
 
     /// Visits the cells of an area.
-    pub(crate) fn visit_cells(&self, changed: Area, search: &mut Search) -> Result<(), AllocError>
+    pub(crate) fn visit_cells(&self, changed: Area, search: &mut Search<'_>) -> Result<(), AllocError>
         requires { IsArea changed }
-        ensures { OnOk result (Visits (λ c. IsCell self.now c × (inside changed c ≡ true)) search.old search.new) }
+        ensures { OnOk result (Visits (λ c. IsCell self.now c × (is_inside changed c ≡ true)) search.old search.new) }
     {
         for (cell, _) in self.cells.range(first_of(changed)..=last_of(changed)) {
             visit_inside(changed, *cell, search)?;
@@ -150,11 +161,11 @@ fn put_cell(
     cell: Addr,
     areas: &[Area],
 ) -> Result<(), AllocError>
-    requires absent { areas_of (listed cells.old.entries) cell ≡ None }
+    requires absent { entry_at (listed cells.old.entries) cell ≡ None }
     requires indexed { IsIndexed (listed cells.old.entries) index.old.keys }
     requires areas { All IsArea areas.now }
     ensures indexed { IsIndexed (listed cells.new.entries) index.new.keys }
-    ensures ok { OnOk result ((c : Addr) → areas_of (listed cells.new.entries) c ≡ cond (same_addr cell c) (Some areas.now) (areas_of (listed cells.old.entries) c)) }
+    ensures ok { OnOk result ((c : Addr) → entry_at (listed cells.new.entries) c ≡ cond (same_addr cell c) (Some areas.now) (entry_at (listed cells.old.entries) c)) }
     ensures err { OnErr result (cells.new.entries ≡ cells.old.entries) }
 {
     let mut list = Vec::new(alloc);
@@ -170,10 +181,10 @@ fn put_cell(
 }
 
 /// Visits a cell if the area has it.
-fn visit_inside(changed: Area, cell: Addr, search: &mut Search) -> Result<(), AllocError>
-    ensures { OnOk result (Visits (λ c. (c ≡ cell) × (inside changed c ≡ true)) search.old search.new) }
+fn visit_inside(changed: Area, cell: Addr, search: &mut Search<'_>) -> Result<(), AllocError>
+    ensures { OnOk result (Visits (λ c. (c ≡ cell) × (is_inside changed c ≡ true)) search.old search.new) }
 {
-    if is_inside(changed, cell) {
+    if changed.holds(cell) {
         search.visit(cell)
     } else {
         Ok(())
@@ -181,7 +192,7 @@ fn visit_inside(changed: Area, cell: Addr, search: &mut Search) -> Result<(), Al
 }
 
 /// The first cell of an area.
-fn first_of(area: Area) -> Addr
+pub(crate) fn first_of(area: Area) -> Addr
     ensures { result ≡ cell_of area 0 0 }
 {
     Addr {
@@ -192,7 +203,7 @@ fn first_of(area: Area) -> Addr
 }
 
 /// The last cell of an area.
-fn last_of(area: Area) -> Addr
+pub(crate) fn last_of(area: Area) -> Addr
     ensures { (result.sheet ≡ area.sheet) × (result.row ≡ area.bottom) × (result.col ≡ area.right) }
 {
     Addr {
@@ -200,13 +211,4 @@ fn last_of(area: Area) -> Addr
         row: area.bottom,
         col: area.right,
     }
-}
-
-/// Whether the area has the cell.
-fn is_inside(area: Area, cell: Addr) -> bool
-    ensures { result ≡ inside area cell }
-{
-    area.sheet == cell.sheet
-        && (area.top <= cell.row && cell.row <= area.bottom)
-        && (area.left <= cell.col && cell.col <= area.right)
 }

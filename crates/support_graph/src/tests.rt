@@ -1,7 +1,12 @@
 //! Worked examples, and a large support.
 
-ghost use Rattle.std.specs.Prelude.{◌≤◌};
+ghost use Rattle.std.specs.Prelude.{◌≡◌, ◌≤◌, false, ◌↔◌, [], OnOk};
+ghost use Rattle.cell_values.specs.declared.address.Addr.{Addr};
+ghost use Rattle.cell_values.specs.Addresses.{IsOnSheet};
 ghost use Rattle.cell_values.specs.Areas.{IsArea};
+ghost use Rattle.demand_spec.specs.Laws.{In};
+ghost use Rattle.support_graph.specs.Pending.{IsClosedBut};
+ghost use Rattle.support_graph.specs.Support.{IsCell};
 
 use crate::{Stale, Support};
 use cell_values::{Addr, Area};
@@ -68,6 +73,24 @@ fn an_area_is_read_in_each_of_its_cells(rt: HostRuntime) -> Result<(), Fail> {
     Ok(())
 }
 
+/// An edit where no cell was pending.
+fn first_edit(support: &Support, stale: &mut Stale, changed: Area) -> Result<(), AllocError>
+    requires area { IsArea changed }
+    requires none { stale.old ≡ [] }
+    ensures { OnOk result (IsClosedBut support.now stale.new (λ _. false)) }
+{
+    stale.edited(support, changed)
+}
+
+/// A formula is cleared.
+fn clear(support: &mut Support, stale: &mut Stale, at: Addr) -> Result<(), AllocError>
+    requires place { IsOnSheet at }
+    requires closed { IsClosedBut support.old stale.old (λ _. false) }
+{
+    support.drop_cell(at);
+    stale.edited(support, Area::of(at))
+}
+
 #[test]
 fn an_edit_leaves_all_that_it_reaches_pending(rt: HostRuntime) -> Result<(), Fail> {
     let alloc = rt.alloc();
@@ -78,19 +101,41 @@ fn an_edit_leaves_all_that_it_reaches_pending(rt: HostRuntime) -> Result<(), Fai
     // `=SUM(A1:A9)` in D4, which an edit reaches by A1.
     put(&mut support, cell(4, 4), rows(1, 9, 1))?;
     let mut stale = Stale::new(alloc);
-    stale.edited(&support, rows(1, 1, 2))?;
-    assert_eq!(rt; stale.len(), 3);
+    first_edit(&support, &mut stale, rows(1, 1, 2))?;
+    assert_eq!(rt; stale.cells().len(), 3);
     assert_eq!(rt; stale.get(0), Some(cell(1, 1)));
     assert_eq!(rt; stale.get(1), Some(cell(1, 3)));
     assert_eq!(rt; stale.get(2), Some(cell(4, 4)));
-    assert_eq!(rt; stale.get(3), None);
-    // A1 is no formula any more, and its edit reaches D4 alone.
-    support.drop_cell(cell(1, 1));
-    stale.edited(&support, rows(1, 1, 1))?;
+    assert!(rt; stale.holds(cell(4, 4)) && !stale.holds(cell(1, 2)));
+    // A1 is no formula any more, and D4 is pending still.
+    clear(&mut support, &mut stale, cell(1, 1))?;
     assert_eq!(rt; stale.len(), 2);
     assert_eq!(rt; stale.get(0), Some(cell(1, 3)));
     stale.empty();
     assert_eq!(rt; stale.len(), 0);
+    Ok(())
+}
+
+/// What a changed cell reaches, where no cell was pending.
+fn spread_from(support: &Support, stale: &mut Stale, from: Addr) -> Result<(), AllocError>
+    requires { stale.old ≡ [] }
+{
+    stale.spread(support, &[from])
+}
+
+#[test]
+fn a_cell_without_a_formula_spreads_to_its_readers(rt: HostRuntime) -> Result<(), Fail> {
+    let alloc = rt.alloc();
+    let mut support = Support::new(alloc);
+    put(&mut support, cell(1, 1), rows(1, 1, 2))?;
+    put(&mut support, cell(4, 4), rows(1, 9, 1))?;
+    let mut stale = Stale::new(alloc);
+    spread_from(&support, &mut stale, cell(1, 2))?;
+    assert_eq!(rt; stale.len(), 2);
+    stale.empty();
+    spread_from(&support, &mut stale, cell(4, 4))?;
+    assert_eq!(rt; stale.get(0), Some(cell(4, 4)));
+    assert_eq!(rt; stale.len(), 1);
     Ok(())
 }
 
@@ -129,13 +174,58 @@ fn whole_columns_and_a_long_chain(rt: HostRuntime) -> Result<(), Fail> {
     assert_eq!(rt; readers(rt, &support, cell(1, 10))?, 1);
     assert_eq!(rt; readers(rt, &support, cell(50_000, 4))?, 0);
     let mut stale = Stale::new(alloc);
-    stale.edited(&support, rows(50_000, 50_000, 4))?;
+    first_edit(&support, &mut stale, rows(50_000, 50_000, 4))?;
     assert_eq!(rt; stale.len(), 1);
-    stale.edited(&support, rows(1, 1, 10))?;
+    stale.empty();
+    first_edit(&support, &mut stale, rows(1, 1, 10))?;
     assert_eq!(rt; stale.len(), 140_000);
     support.drop_cell(cell(2, 1));
     stale.empty();
-    stale.edited(&support, rows(1, 1, 10))?;
+    first_edit(&support, &mut stale, rows(1, 1, 10))?;
     assert_eq!(rt; stale.len(), 40_001);
+    Ok(())
+}
+
+/// All cells are pending.
+fn fill(support: &Support, stale: &mut Stale) -> Result<(), AllocError>
+    ensures { OnOk result ((c : Addr) → In c stale.new ↔ IsCell support.now c) }
+{
+    stale.fill(support)
+}
+
+/// Edits of single cells of a column, one after the other, where all cells are pending.
+fn edit_rows(support: &Support, stale: &mut Stale, col: u16, count: u32) -> Result<(), AllocError>
+    requires count { count ≤ 65536 }
+    requires from { 1 ≤ col }
+    requires to { col ≤ 256 }
+    requires all { (c : Addr) → In c stale.old ↔ IsCell support.now c }
+{
+    for above in 0..count {
+        edit_one(support, stale, rows(above + 1, above + 1, col))?;
+    }
+    Ok(())
+}
+
+/// An edit where all cells are pending.
+fn edit_one(support: &Support, stale: &mut Stale, changed: Area) -> Result<(), AllocError>
+    requires area { IsArea changed }
+    requires all { (c : Addr) → In c stale.old ↔ IsCell support.now c }
+    ensures { OnOk result ((c : Addr) → In c stale.new ↔ IsCell support.now c) }
+{
+    stale.edited(support, changed)
+}
+
+#[test]
+fn ten_thousand_edits_of_pending_cells(rt: HostRuntime) -> Result<(), Fail> {
+    let alloc = rt.alloc();
+    let mut support = Support::new(alloc);
+    // 100,000 cells, which an edit of the first one reaches.
+    add_chain(&mut support, 1, rows(1, 1, 10), 50_000)?;
+    add_chain(&mut support, 4, rows(50_000, 50_000, 1), 50_000)?;
+    let mut stale = Stale::new(alloc);
+    fill(&support, &mut stale)?;
+    assert_eq!(rt; stale.len(), 100_000);
+    edit_rows(&support, &mut stale, 1, 10_000)?;
+    assert_eq!(rt; stale.len(), 100_000);
     Ok(())
 }

@@ -1,8 +1,16 @@
 use Rattle.std.proofs.Common.{◌∙◌, ◌≤◌, List, length, ap, sym, subst, arith}
 use Rattle.formula_tokens.specs.declared.token.Spot.{Spot}
-use Rattle.formula_tokens.specs.Tokens.{spots_of, with_literals, TextsAreOf}
-use Rattle.formula_grammar.proofs.Answered.{refused, knows, first_known, second_known}
+use Rattle.cell_values.specs.Texts.{Texts}
+use Rattle.formula_tokens.specs.Tokens.{spots_of, with_literals, HoldsLiterals, TextsAreOf}
+use Rattle.formula_tokens.proofs.Held.{interned_are_held}
+use Rattle.formula_grammar.proofs.Answered.{means, refused, knows, first_known, second_known}
 use Rattle.formula_grammar.proofs.formula.read_formula.Goals as goal
+
+pub returns-in-Ok-clause-tree : goal.returns-in-Ok-clause-tree
+returns-in-Ok-clause-tree c =
+    let held = interned_are_held c.args.sheets.now c.args.texts.now c.args.text.now in
+    means c.args.sheets.now c.read_tokens.new.texts c.args.at c.args.text.now c.deref.result.now c.read_spots.result c.requires.formula (omega (arith, c.if-text-gt-MAX_FORMULA_BYTES.false))
+    (c.deref.ensures.value ∙ c.in-Ok.ensures.tokens) (subst (λ (ts : Texts). HoldsLiterals c.args.sheets.now ts c.args.text.now) (sym c.in-Ok.ensures.interned) held) c.read_spots.ensures.ok
 
 pub returns-in-Ok-clause-refused : goal.returns-in-Ok-clause-refused
 returns-in-Ok-clause-refused c =

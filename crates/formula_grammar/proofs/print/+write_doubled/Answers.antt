@@ -1,6 +1,6 @@
 use Rattle.std.proofs.Common.{◌≡◌, ◌++◌, ◌∷◌, List, ℕ, subst, string_bytes}
 use Rattle.std.specs.Option.{MatchOption}
-use Rattle.formula_grammar.specs.Printed.{doubled}
+use Rattle.formula_tokens.specs.Spelling.{doubled}
 use Rattle.formula_grammar.proofs.Quotes.{doubled_parts, pushed_last, pushed_parts}
 use Rattle.formula_grammar.proofs.print.+write_doubled.Goals as goal
 

@@ -2,14 +2,15 @@ use Rattle.std.proofs.Common.{◌≡◌, ◌∙◌, List, Some, cond, rules}
 use Rattle.std.specs.Prelude.{Option}
 use Rattle.cell_values.specs.declared.address.Area.{Area}
 use Rattle.cell_values.specs.Addresses.{same_addr}
-use Rattle.support_graph.specs.Support.{areas_of, listed}
+use Rattle.cell_values.specs.Order.{entry_at}
+use Rattle.support_graph.specs.Support.{listed}
 use Rattle.support_graph.proofs.Cells.{changed_listed, order_listed, indexed_put}
 use Rattle.support_graph.proofs.support.put_cell.Goals as goal
 
 pub returns-in-Ok-clause-ok : goal.returns-in-Ok-clause-ok
 returns-in-Ok-clause-ok c q =
     let same : c.extend_from_slice.new.self.items ≡ c.args.areas.now = search rules in
-    changed_listed c.args.cells.now.entries c.insert.new.self.entries c.args.cell (Some c.extend_from_slice.new.self) c.in-Ok.ensures.updates.0 q ∙ (λ i. cond {A = Option (List Area)} (same_addr c.args.cell q) (Some (same i)) (areas_of (listed c.args.cells.now.entries) q))
+    changed_listed c.args.cells.now.entries c.insert.new.self.entries c.args.cell (Some c.extend_from_slice.new.self) c.in-Ok.ensures.updates.0 q ∙ (λ i. cond {A = Option (List Area)} (same_addr c.args.cell q) (Some (same i)) (entry_at (listed c.args.cells.now.entries) q))
 
 pub returns-in-Ok-clause-indexed : goal.returns-in-Ok-clause-indexed
 returns-in-Ok-clause-indexed c =

@@ -1,4 +1,4 @@
-use Rattle.support_graph.proofs.Ascending.{in_order}
+use Rattle.cell_values.proofs.Order.{in_order}
 use Rattle.support_graph.proofs.search.Search.found.Goals as goal
 
 pub returns-in_err-push-clause-in_order : goal.returns-in_err-push-clause-in_order

@@ -7,9 +7,9 @@ use Rattle.std.proofs.lemmas.Map.Iter.{iter_end}
 use Rattle.cell_values.specs.declared.address.Addr.{Addr}
 use Rattle.cell_values.specs.declared.address.Area.{Area}
 use Rattle.cell_values.specs.Areas.{is_inside as inside}
+use Rattle.cell_values.proofs.Order.{cmp}
 use Rattle.support_graph.specs.Support.{CellAreas, IsCell}
 use Rattle.support_graph.specs.Steps.{Visits}
-use Rattle.support_graph.proofs.Orders.{addr_cmp}
 use Rattle.support_graph.proofs.Spans.{Item, between, inside_between, visits_address, visits_range}
 use Rattle.support_graph.proofs.support.Support.visit_cells.Goals as goal
 
@@ -23,7 +23,7 @@ returns c =
     let b = c.last_of.result in
     let es = c.self.inside.cells.entries in
     let start : c.into_iter-cell-iterator.result ≡ filter (λ (e : Addr × Vec Area). between a b e.0) es =
-    c.into_iter-cell-iterator.ensures.into_iter_gives ∙ c.range-cell-items.ensures.between c.new.ensures.exhausted ∙ (λ i. filter (λ (e : Addr × Vec Area). range_contains addr_cmp (Included (c.new.ensures.start i)) (Included (c.new.ensures.end i)) e.0) es) in
+    c.into_iter-cell-iterator.ensures.into_iter_gives ∙ c.range-cell-items.ensures.between c.new.ensures.exhausted ∙ (λ i. filter (λ (e : Addr × Vec Area). range_contains cmp (Included (c.new.ensures.start i)) (Included (c.new.ensures.end i)) e.0) es) in
     let all = iter_end (λ (y : Item). (y.0.now, y.1.now)) (filter (λ (e : Addr × Vec Area). between a b e.0) es) c.loop-cell.yielded c.into_iter-cell-iterator.result c.loop-cell.cell-iterator c.next.new.self c.next.result start c.loop-cell.yielded_by c.in-None.is c.next.ensures.steps in
     let first = c.first_of.ensures in
     let last = c.last_of.ensures in

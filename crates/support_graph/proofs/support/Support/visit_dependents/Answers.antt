@@ -1,5 +1,6 @@
 use Rattle.std.proofs.Common.{OnOk, subst, sym, arith}
-use Rattle.support_graph.specs.Support.{CellAreas, InOrder, Reads, listed}
+use Rattle.cell_values.specs.Order.{InOrder, addresses}
+use Rattle.support_graph.specs.Support.{CellAreas, Reads, listed}
 use Rattle.support_graph.specs.Steps.{Visits, AreRead}
 use Rattle.support_graph.proofs.Columns.{column_visits}
 use Rattle.support_graph.proofs.Readers.{none_reads, on_ok}
@@ -15,7 +16,7 @@ returns-then-addr-gt-LAST_ROW-clause-visits c =
     (none_reads (listed c.self.inside.cells.entries) c.self.inside.index.keys c.self.invariant c.args.addr c.if-addr-gt-LAST_ROW.true c.args.search.now)
 
 pub returns-then-addr-gt-LAST_ROW-clause-in_order : goal.returns-then-addr-gt-LAST_ROW-clause-in_order
-returns-then-addr-gt-LAST_ROW-clause-in_order c = subst InOrder c.self.view_is c.self.invariant.in_order
+returns-then-addr-gt-LAST_ROW-clause-in_order c = subst (λ (s : CellAreas). InOrder (addresses s)) c.self.view_is c.self.invariant.in_order
 
 pub returns-clause-visits : goal.returns-clause-visits
 returns-clause-visits c =
@@ -29,4 +30,4 @@ returns-clause-done c =
     (on_ok c.visit_row.result (seen_read (listed c.self.inside.cells.entries) c.self.inside.index.keys c.self.invariant c.visit_row.new.done.keys c.visit_row.new.search) c.visit_row.ensures.done)
 
 pub returns-clause-in_order : goal.returns-clause-in_order
-returns-clause-in_order c = subst InOrder c.self.view_is c.self.invariant.in_order
+returns-clause-in_order c = subst (λ (s : CellAreas). InOrder (addresses s)) c.self.view_is c.self.invariant.in_order
