@@ -1,23 +1,21 @@
 -- Tokens that differ in the numbers of texts alone have the same fault.
-use Rattle.std.proofs.Common.{◌≡◌, ℕ, ◌+◌, ◌≤◌, List, [], ◌∷◌, length, map, true, false, Ok, Err, Option, Some, None, nat_le, ◌-◌, refl, ap, ap₂, sym, ◌∙◌, subst, ◌⊎◌, inl, inr}
+use Rattle.std.proofs.Common.{◌≡◌, ℕ, ◌+◌, List, [], ◌∷◌, length, map, true, false, Ok, Err, None, nat_le, ◌-◌, refl, ap₂, sym, ◌∙◌, subst, inl, inr}
 use Rattle.std.specs.Prelude.{unwrap_or}
 use Rattle.cell_values.specs.declared.interned.TextId.{TextId}
-use Rattle.cell_values.specs.declared.address.Addr.{Addr}
 use Rattle.cell_values.specs.declared.TheConstants.{MAX_RANGE_CELLS}
 use Rattle.cell_values.specs.Interned.{number_of}
 use Rattle.cell_values.specs.Texts.{Texts}
 use Rattle.formula_trees.specs.declared.TheConstants.{MAX_NODES, MAX_LEVELS}
 use Rattle.formula_trees.specs.declared.functions.Kind.{Kind}
 use Rattle.formula_trees.specs.declared.functions.Kind.TheVariants.{Plain, Place, Many, Exact}
-use Rattle.formula_trees.specs.Expr.{Expr}
 use Rattle.formula_tokens.specs.declared.token.Literal.{Literal}
 use Rattle.formula_tokens.specs.declared.token.Spot.{Spot}
 use Rattle.formula_tokens.specs.declared.token.Token.{Token}
 use Rattle.formula_tokens.specs.Lexemes.{Quoted, Other, Placed, lexemes}
 use Rattle.formula_tokens.specs.Tokens.{spot_of, spots_of}
 use Rattle.formula_grammar.specs.declared.faults.FaultKind.{FaultKind}
-use Rattle.formula_grammar.specs.Fault.{Reads, FirstFault, tokens_of}
-use Rattle.formula_grammar.specs.Reading.{HasFault, FaultsStay}
+use Rattle.formula_grammar.specs.Fault.{FirstFault}
+use Rattle.formula_grammar.specs.Reading.{FaultsStay}
 use Rattle.formula_grammar.specs.Steps.{Frame, State, operand, operator, named, opened, argument, sheet, corner, colon, ended, finished, in_call, Move, move, mark_at, step, checked, Outcome, accepted, fault, run, run_on, on_argument}
 use Rattle.formula_grammar.specs.Syntax.{Mark, kind_at}
 use Rattle.formula_grammar.proofs.Law.{accepted_faultless}

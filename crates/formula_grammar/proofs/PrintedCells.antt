@@ -16,7 +16,6 @@ use Rattle.std.proofs.lemmas.Option.{cond_some, same_Some}
 use Rattle.std.proofs.lemmas.Str.Parse.{IsNumeralModel, numerals_by_value, tells_all_ascii_digits}
 use Rattle.cell_values.specs.declared.address.Addr.{Addr}
 use Rattle.cell_values.specs.CellText.{column_number, column_letters}
-use Rattle.cell_values.specs.Texts.{Texts}
 use Rattle.cell_values.proofs.ReadBack.{column_letters_name, digits_no_letter}
 use Rattle.cell_values.specs.declared.TheConstants.{LAST_COLUMN, LAST_ROW}
 use Rattle.formula_trees.specs.declared.tree.Part.{Part}

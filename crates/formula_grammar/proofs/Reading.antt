@@ -1,5 +1,5 @@
 -- How the readers of parts go together.
-use Rattle.std.proofs.Common.{Some, None, cond, ◌≡◌, ◌≢◌, ℕ, suc, ◌+◌, ◌-◌, ◌<◌, ◌≤◌, List, [], ◌∷◌, ◌++◌, length, drop, Bool, true, false, Option, Result, Ok, Err, IfOk, IfErr, OnOk, ◌⊎◌, nat_le, le-leb, zero, ⊎_elim, refl, sym, ap, ap₂, ◌∙◌, subst, arith, append_assoc}
+use Rattle.std.proofs.Common.{Some, None, cond, ◌≡◌, ◌≢◌, ℕ, suc, ◌+◌, ◌-◌, ◌<◌, ◌≤◌, List, [], ◌∷◌, ◌++◌, length, drop, Bool, true, false, Option, Result, Ok, Err, IfOk, IfErr, OnOk, ◌⊎◌, nat_le, le-leb, ⊎_elim, refl, sym, ap, ap₂, ◌∙◌, subst, arith, append_assoc}
 use Rattle.cell_values.specs.declared.address.Addr.{Addr}
 use Rattle.cell_values.specs.declared.TheConstants.{MAX_RANGE_CELLS}
 use Rattle.formula_trees.specs.declared.TheConstants.{MAX_NODES, MAX_LEVELS}

@@ -1,7 +1,5 @@
 -- The fault that is answered.
-use Rattle.std.specs.Prelude.{ℕ, ◌≤◌, List}
-use Rattle.std.specs.List.{AllByRecursion}
-use Rattle.formula_trees.specs.declared.TheConstants.{MAX_FORMULA_BYTES}
+use Rattle.std.specs.Prelude.{ℕ, List}
 use Rattle.formula_tokens.specs.declared.token.Spot.{Spot}
 use Rattle.formula_grammar.specs.declared.faults.FormulaFault.{FormulaFault}
 use Rattle.formula_grammar.specs.declared.faults.FormulaFault.TheVariants.{Bad, OutOfMemory}

@@ -1,5 +1,5 @@
 -- The text of a formula, without blanks and with the fewest parentheses.
-use Rattle.std.specs.Prelude.{ℕ, suc, ◌==◌, nat_lt, if◌then◌else◌, Option, Some, None, List, [], ◌∷◌, ◌++◌, flat_map, slice_index_or, codes}
+use Rattle.std.specs.Prelude.{ℕ, suc, nat_lt, if◌then◌else◌, Option, Some, None, List, [], ◌++◌, slice_index_or, codes}
 use Rattle.std.specs.Fmt.{decimal}
 use Rattle.cell_values.specs.declared.address.Addr.{Addr}
 use Rattle.cell_values.specs.CellText.{column_letters}
@@ -9,7 +9,6 @@ use Rattle.cell_values.specs.Texts.{Texts, text_at}
 use Rattle.formula_trees.specs.declared.tree.Part.{Part}
 use Rattle.formula_trees.specs.declared.tree.Reference.{Reference}
 use Rattle.formula_trees.specs.declared.tree.Sign.{Sign}
-use Rattle.formula_trees.specs.declared.tree.Op.{Op}
 use Rattle.formula_trees.specs.Expr.{Expr, Exprs, Number, Text, Truth, Ref, Range, RefError, Unary, Binary, Call, End, More}
 use Rattle.formula_trees.specs.References.{resolve}
 use Rattle.formula_trees.specs.declared.levels.TheConstants.{SIGN_LEVEL}

@@ -1,5 +1,5 @@
 -- What has been read so far, as a state that each token moves.
-use Rattle.std.specs.Prelude.{Option, Some, None, ◌-◌, ℕ, zero, suc, ◌+◌, List, [], ◌∷◌, Bool, true, false, Result, Ok, Err, nat_le}
+use Rattle.std.specs.Prelude.{Option, Some, None, ◌-◌, ℕ, suc, ◌+◌, List, [], ◌∷◌, Bool, true, false, Result, Ok, Err, nat_le}
 use Rattle.formula_trees.specs.declared.tree.Fun.{Fun}
 use Rattle.formula_trees.specs.declared.tree.Op.{Op}
 use Rattle.formula_trees.specs.declared.tree.Sign.{Sign}

@@ -1,6 +1,6 @@
 -- Texts that hold the literals of a formula.
-use Rattle.std.proofs.Common.{◌≡◌, ℕ, ◌+◌, ◌<◌, ◌≤◌, get_or, arith, Bool, true, false, cond, List, [], ◌∷◌, ◌++◌, length, map, take, drop, refl, ap, ap₂, sym, subst, ◌∙◌, Option, Some, None}
-use Rattle.std.specs.Prelude.{IsSome, flat_map, fold, nat_lt, unwrap_or}
+use Rattle.std.proofs.Common.{◌≡◌, ℕ, ◌+◌, ◌<◌, ◌≤◌, get_or, arith, Bool, true, false, cond, List, [], ◌∷◌, ◌++◌, length, map, drop, refl, ap, ap₂, sym, subst, ◌∙◌, Option, Some, None}
+use Rattle.std.specs.Prelude.{IsSome, flat_map, nat_lt, unwrap_or}
 use Rattle.std.specs.List.{AllByRecursion, position_from, position_or_len}
 use Rattle.std.specs.Str.{bytes_eq}
 use Rattle.std.proofs.lemmas.Iterator.Adapters.{position_from-zero}
@@ -16,7 +16,7 @@ use Rattle.formula_tokens.specs.declared.token.Spot.{Spot}
 use Rattle.formula_tokens.specs.declared.token.Token.{Token}
 use Rattle.formula_tokens.specs.Laws.{InternedAreHeld, HeldStay, LongerHold, LongerAgree}
 use Rattle.formula_tokens.specs.Lexemes.{Lexeme, Quoted, Other, Placed, lexemes}
-use Rattle.formula_tokens.specs.Tokens.{token_of, spot_of, spots_of, literal_of, with_texts, with_literals, HoldsLiteral, HoldsLiterals}
+use Rattle.formula_tokens.specs.Tokens.{spot_of, spots_of, literal_of, with_texts, with_literals, HoldsLiteral, HoldsLiterals}
 use Rattle.formula_tokens.proofs.Reading.{interned_number, number_stays}
 
 -- a text of the first texts has the same number among all

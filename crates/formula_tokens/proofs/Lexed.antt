@@ -5,7 +5,6 @@ use Rattle.std.proofs.lemmas.Bool.{cond-true, cond-false}
 use Rattle.std.proofs.lemmas.List.{drop_at}
 use Rattle.cell_values.specs.Texts.{Texts}
 use Rattle.formula_tokens.specs.declared.token.Spot.{Spot}
-use Rattle.formula_tokens.specs.declared.token.Token.{Token}
 use Rattle.formula_tokens.specs.Lexemes.{Lexeme, Cut, Placed, cut, is_blank, is_bad, is_prefix, first_lexeme, lexemes_at, lexemes}
 use Rattle.formula_tokens.specs.Tokens.{token_of, spot_of, spots_of, HoldsLiteral, HoldsLiterals}
 

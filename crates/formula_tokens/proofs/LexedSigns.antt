@@ -1,9 +1,9 @@
 -- How signs, texts, truth values and sheet prefixes are read as lexemes.
-use Rattle.std.proofs.Common.{◌≡◌, ℕ, ◌+◌, ◌<◌, ◌≤◌, Bool, true, false, cond, not, eqb, List, [], ◌∷◌, ◌++◌, length, get_or, refl, ap, sym, ◌∙◌, arith, Option, Some, None}
-use Rattle.std.specs.Prelude.{◌&&◌, ◌||◌, ◌==◌, nat_eq, nat_lt, nat_le, option_map, unwrap_or, codes}
-use Rattle.std.specs.List.{position_or_len, list_all, starts_with}
+use Rattle.std.proofs.Common.{◌≡◌, ℕ, ◌+◌, Bool, true, false, cond, not, eqb, List, [], ◌∷◌, ◌++◌, length, refl, ap, sym, ◌∙◌, arith, Option, Some}
+use Rattle.std.specs.Prelude.{◌&&◌, ◌||◌, ◌==◌, nat_eq, nat_lt, nat_le, option_map, codes}
+use Rattle.std.specs.List.{list_all, starts_with}
 use Rattle.std.specs.Char.{is_ascii_alphabetic, is_ascii_alphanumeric}
-use Rattle.std.proofs.lemmas.Bool.{true≢false, ltb-false, cond-true, cond-false, and_parts, and_from, eqb-true}
+use Rattle.std.proofs.lemmas.Bool.{cond-true, cond-false, and_parts, and_from, eqb-true}
 use Rattle.std.proofs.lemmas.Bool.Decides.{nat_tests}
 use Rattle.std.proofs.lemmas.List.{append_assoc, length-append}
 use Rattle.cell_values.specs.Interned.{number_of}
@@ -13,7 +13,7 @@ use Rattle.formula_trees.specs.declared.tree.Op.{Op}
 use Rattle.formula_tokens.specs.declared.token.Literal.{Literal}
 use Rattle.formula_tokens.specs.declared.token.Token.{Token}
 use Rattle.formula_tokens.specs.Words.{begins_word, is_word_byte, leading, begins_with, corner_of, truth_of}
-use Rattle.formula_tokens.specs.Lexemes.{Quoted, Other, cut, bad, is_blank, has_no_dollar, quoted_prefix, with_byte, literal_from, literal_cut, first_lexeme}
+use Rattle.formula_tokens.specs.Lexemes.{Quoted, Other, cut, bad, has_no_dollar, quoted_prefix, with_byte, literal_from, literal_cut, first_lexeme}
 use Rattle.formula_tokens.specs.Spelling.{doubled, quoted, op_text, is_word, no_quote, ends_operator, ends_before}
 use Rattle.formula_tokens.proofs.Lexed.{lexemes_in, one_lexeme}
 use Rattle.formula_tokens.proofs.LexedWords.{closes, opens, begins_not, closes_words, closes_call, word_solid, run_leads, run_behind, plain_lexeme, word_first}

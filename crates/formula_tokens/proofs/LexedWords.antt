@@ -13,7 +13,7 @@ use Rattle.formula_trees.specs.declared.tree.Fun.{Fun}
 use Rattle.formula_tokens.specs.declared.token.Literal.{Literal}
 use Rattle.formula_tokens.specs.declared.token.Token.{Token}
 use Rattle.formula_tokens.specs.Words.{begins_word, is_word_byte, leading, behind, begins_with, corner_of, function_name, function_named}
-use Rattle.formula_tokens.specs.Lexemes.{Lexeme, Other, cut, is_blank, is_bad, is_prefix, number_token, apart, has_no_dollar, plain_word, word_cut, first_lexeme}
+use Rattle.formula_tokens.specs.Lexemes.{Other, cut, is_blank, is_bad, is_prefix, number_token, apart, has_no_dollar, plain_word, word_cut, first_lexeme}
 use Rattle.formula_tokens.specs.Spelling.{is_word}
 use Rattle.formula_tokens.proofs.Lexed.{lexemes_in, one_lexeme}
 

@@ -9,3 +9,4 @@ pub mod Lexed
 pub mod LexedWords
 pub mod LexedSigns
 pub mod Written
+pub mod Capitals

@@ -1,5 +1,5 @@
 -- Tokens that are written one after the other are read as they are.
-use Rattle.std.proofs.Common.{◌≡◌, ℕ, ◌+◌, ◌<◌, Bool, true, false, not, List, [], ◌∷◌, ◌++◌, length, map, drop, refl, ap, sym, subst, ◌∙◌, ◌⊎◌, inl, inr, arith, Option, IsTrue, ltb-true}
+use Rattle.std.proofs.Common.{◌≡◌, ℕ, ◌+◌, Bool, true, false, not, List, [], ◌∷◌, ◌++◌, length, map, refl, ap, sym, subst, ◌∙◌, inl, inr, arith, Option, IsTrue, ltb-true}
 use Rattle.std.specs.Prelude.{◌&&◌, ◌==◌, nat_lt, codes}
 use Rattle.std.specs.List.{list_all, prefix_len}
 use Rattle.std.specs.Char.{is_ascii_digit}
@@ -10,12 +10,11 @@ use Rattle.cell_values.specs.Interned.{number_of}
 use Rattle.cell_values.specs.Texts.{Texts}
 use Rattle.formula_trees.specs.declared.tree.Op.{Op}
 use Rattle.formula_tokens.specs.declared.token.Literal.{Literal}
-use Rattle.formula_tokens.specs.declared.token.Spot.{Spot}
 use Rattle.formula_tokens.specs.declared.token.Token.{Token}
 use Rattle.formula_tokens.specs.Laws.{WrittenAreRead, BlanksMayFollow}
 use Rattle.formula_tokens.specs.Lexemes.{Lexeme, Quoted, Other, is_blank, is_bad, is_prefix, number_token}
 use Rattle.formula_tokens.specs.Spelling.{quoted, op_text, is_word, is_number, word_token, WritesPrefix, Writes, ends_word, ends_operator, may_follow, ends_before, Piece, pieces_text, opens_call, touches, AreWritten}
-use Rattle.formula_tokens.specs.Tokens.{token_of, spots_of}
+use Rattle.formula_tokens.specs.Tokens.{token_of}
 use Rattle.formula_tokens.specs.Words.{begins_word, is_word_byte, begins_with, behind}
 use Rattle.formula_tokens.proofs.Lexed.{lexemes_in, one_blank, whole_tokens}
 use Rattle.formula_tokens.proofs.LexedWords.{run_behind, digit_solid, word_solid, number_lexeme, plain_lexeme, call_lexeme}

@@ -1,10 +1,11 @@
 -- What holds of the tokens of all texts.
-use Rattle.std.specs.Prelude.{◌≡◌, ℕ, true, false, List, ◌++◌, map, codes}
+use Rattle.std.specs.Prelude.{◌≡◌, ℕ, Bool, true, false, List, ◌++◌, map, codes}
 use Rattle.cell_values.specs.Texts.{Texts}
 use Rattle.cell_values.specs.Interned.{KeepsTexts}
 use Rattle.formula_tokens.specs.Lexemes.{Lexeme, is_blank}
-use Rattle.formula_tokens.specs.Spelling.{Piece, pieces_text, AreWritten, may_follow}
+use Rattle.formula_tokens.specs.Spelling.{Piece, pieces_text, AreWritten, may_follow, word_token}
 use Rattle.formula_tokens.specs.Tokens.{token_of, spots_of, with_literals, HoldsLiterals}
+use Rattle.formula_tokens.specs.Words.{upper}
 
 -- the texts that are there once a formula's literals are interned hold them
 abbrev pub InternedAreHeld : Type 0
@@ -28,3 +29,7 @@ WrittenAreRead = (names : List (List ℕ)) (ts : Texts) (ps : List Piece) → Ar
 -- a blank is enough behind each
 abbrev pub BlanksMayFollow : Type 0
 BlanksMayFollow = (l : Lexeme) (b : ℕ) → is_blank b ≡ true → may_follow l b ≡ true
+
+-- a word in capitals is the same token
+abbrev pub CapitalsAgree : Type 0
+CapitalsAgree = (prefixed calls : Bool) (word : List ℕ) → word_token prefixed calls (upper word) ≡ word_token prefixed calls word

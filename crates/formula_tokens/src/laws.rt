@@ -1,6 +1,6 @@
 //! Laws of the tokens, each proved for all texts.
 
-ghost use Rattle.formula_tokens.specs.Laws.{InternedAreHeld, HeldStay, LongerHold, LongerAgree, WrittenAreRead, BlanksMayFollow};
+ghost use Rattle.formula_tokens.specs.Laws.{InternedAreHeld, HeldStay, LongerHold, LongerAgree, WrittenAreRead, BlanksMayFollow, CapitalsAgree};
 
 /// Once the literals of a formula are interned, the texts hold them; and where they held them before, they stay as
 /// they are.
@@ -17,8 +17,9 @@ pub fn law_longer_texts()
 {}
 
 /// The tokens of any list, written one after the other with blanks where they are needed, in either case, are read as
-/// this list. A blank is enough behind each.
+/// this list. A blank is enough behind each, and a word in capitals is the same token.
 pub fn law_written_are_read()
     ensures read { WrittenAreRead }
     ensures blanks { BlanksMayFollow }
+    ensures capitals { CapitalsAgree }
 {}
