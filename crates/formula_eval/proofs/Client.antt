@@ -1,16 +1,18 @@
 -- Small books of tests.
-use Rattle.std.proofs.Common.{◌≡◌, ◌<◌, ◌⊎◌, Bool, true, false, cond, inl, inr, Option, Some, None, Ok, List, [], ◌∷◌, ◌++◌, refl, ap, subst, arith}
+use Rattle.std.proofs.Common.{◌≡◌, ◌<◌, ◌⊎◌, Bool, true, false, cond, inl, inr, Option, Some, None, Ok, List, [], ◌∷◌, ◌++◌, length, take, min, refl, ap, subst, arith}
+use Rattle.std.proofs.lemmas.List.{length-take}
 use Rattle.cell_values.specs.declared.address.Addr.{Addr}
 use Rattle.cell_values.specs.declared.values.Value.{Value}
-use Rattle.cell_values.specs.Addresses.{IsBefore, same_addr}
-use Rattle.cell_values.specs.Texts.{Texts}
+use Rattle.cell_values.specs.Addresses.{same_addr}
+use Rattle.cell_values.specs.Texts.{Texts, IsTextOf}
+use Rattle.cell_values.specs.Interned.{KeepsTexts}
+use Rattle.cell_values.specs.declared.interned.TextId.{TextId}
 use Rattle.cell_values.specs.Values.{IsValueOf}
 use Rattle.formula_trees.specs.Expr.{Expr}
 use Rattle.demand_spec.specs.declared.Asked.TheVariants.{Val}
 use Rattle.demand_spec.specs.Asks.{any_value}
 use Rattle.demand_spec.specs.Book.{Book, Content, look, look_at, formula_at, own}
-use Rattle.cell_values.specs.Order.{addresses, entry_at, IsAfterAll}
-use Rattle.cell_values.proofs.Order.{before_trans}
+use Rattle.cell_values.specs.Order.{entry_at}
 use Rattle.demand_spec.specs.Listed.{AreKnownOf}
 use Rattle.demand_spec.proofs.Texts.{look_text}
 use Rattle.formula_eval.specs.declared.machine.Look.{Look}
@@ -18,10 +20,12 @@ use Rattle.formula_eval.specs.Evaluations.{found_as, MeansValue}
 use Rattle.formula_eval.specs.Laws.{IsKept}
 use Rattle.formula_eval.specs.Client.{Sight, IsSight, look_on}
 
--- what lies after a cell lies after all cells that this one is put behind
-pub after_push : (cs : List (Addr × Content)) (c : Addr × Content) → IsAfterAll c.0 (addresses cs) → (next : Addr) → IsBefore c.0 next → IsAfterAll next (addresses (cs ++ c ∷ []))
-after_push [] c h next k = (k, tt)
-after_push (d ∷ cs) c h next k = (before_trans d.0 c.0 next h.0 k, after_push cs c h.1 next k)
+-- a text keeps its number
+pub texts_kept : (ts us : Texts) (t : TextId) → KeepsTexts ts us → IsTextOf ts t → IsTextOf us t
+texts_kept ts us t h l =
+    let e : length (take (length ts) us) ≡ length ts = ap length h in
+    let m : length (take (length ts) us) ≡ min (length ts) (length us) = length-take (length ts) us in
+    omega arith
 
 -- a value that is told last is found only where none was told before
 pushed_one : (b : Bool) (w v : Value) → cond b (Some w) None ≡ Some v → w ≡ v

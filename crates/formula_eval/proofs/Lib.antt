@@ -7,5 +7,4 @@ pub mod Ranges
 pub mod Searches
 pub mod Turns
 pub mod Lines
-pub mod Levels
 pub mod Client

@@ -12,6 +12,7 @@ use Rattle.formula_trees.specs.declared.place.Place.{Place}
 use Rattle.formula_trees.specs.declared.place.Place.TheVariants.{Nowhere, Cells}
 use Rattle.formula_trees.specs.Mentions.{cells_of, place_of}
 use Rattle.formula_trees.specs.Sound.{nodes}
+use Rattle.formula_trees.specs.declared.TheConstants.{MAX_NODES}
 use Rattle.builtin_functions.specs.declared.operators.Op2.{Op2}
 use Rattle.builtin_functions.specs.declared.operators.Sign2.{Sign2}
 use Rattle.builtin_functions.specs.declared.folds.FoldKind.{FoldKind}
@@ -331,7 +332,7 @@ abbrev mutual
 pub record Holds (limit n : ℕ) (e : Expr) : Type 0 where
   pub deep : n + depth e ≤ limit
   pub covered : IsCovered e
-  pub small : nodes e ≤ 512
+  pub small : nodes e ≤ MAX_NODES
 
 -- the texts of an expression are these texts'
 abbrev pub IsMeant : Texts → Expr → Type 0

@@ -1,5 +1,6 @@
 //! The cells that arguments name.
 ghost use Rattle.std.specs.Prelude.{◌≡◌, ◌<◌, ◌≤◌, ◌+◌, ◌^◌, ◌∷◌, IfSome, length, drop};
+ghost use Rattle.cell_values.specs.declared.TheConstants.{LAST_ROW};
 ghost use Rattle.cell_values.specs.Areas.{walk, height, width, cell_of, IsArea};
 ghost use Rattle.formula_trees.specs.Mentions.{cells_of, place_from, place_of};
 ghost use Rattle.shared_expressions.specs.Trees.{tree_at};
@@ -24,7 +25,7 @@ pub fn first_cell(area: Area) -> Addr
 pub fn across(fun: Fun, area: Area) -> u32
     requires { IsArea area }
     ensures same { result ≡ across fun area }
-    ensures few { result ≤ 65536 }
+    ensures few { result ≤ LAST_ROW }
 {
     match fun {
         Fun::HLookup => area.rows(),

@@ -13,11 +13,11 @@ use crate::work::{Step, Work};
 use builtin_functions::operators::{binary, condition, unary};
 use builtin_functions::{Op2, Sign2};
 use cell_values::{Code, Int, Value};
-use formula_trees::{Fun, Place};
+use formula_trees::{Fun, MAX_NODES, Place};
 use shared_expressions::{ExprId, Node};
 
-/// A formula has at most 512 nodes, so CHOOSE has at most so many choices.
-const MOST_CHOICES: u32 = 511;
+/// A formula has at most `MAX_NODES` nodes, and the call is one, so CHOOSE has at most so many choices.
+const MOST_CHOICES: u32 = MAX_NODES as u32 - 1;
 
 impl<'a> Site<'a> {
     /// A call goes on with a value.

@@ -10,8 +10,6 @@ pub mod frames;
 mod machine;
 mod site;
 #[cfg(test)]
-mod spelled;
-#[cfg(test)]
 mod tests;
 pub mod work;
 

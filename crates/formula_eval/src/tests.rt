@@ -1,21 +1,22 @@
 //! Formulas of every kind over a small book, told the cells that they need one at a time.
-ghost use Rattle.std.specs.Prelude.{◌≡◌, ◌+◌, ◌≤◌, ◌++◌, ◌∷◌, [], IsTrue, length, option_map, option_copied};
-ghost use Rattle.cell_values.specs.Addresses.{IsBefore, IsOnSheet, same_addr};
+ghost use Rattle.std.specs.Prelude.{◌≡◌, ◌+◌, ◌≤◌, ◌++◌, ◌∷◌, [], true, length, option_map, option_copied, string_bytes, IfOk};
+ghost use Rattle.cell_values.specs.Addresses.{IsOnSheet, same_addr};
+ghost use Rattle.cell_values.specs.Order.{entry_at};
 ghost use Rattle.cell_values.specs.Texts.{Texts as Bytes, IsTextOf};
 ghost use Rattle.cell_values.specs.Values.{IsValueOf};
-ghost use Rattle.cell_values.specs.Order.{addresses, entry_at, IsAfterAll};
-ghost use Rattle.demand_spec.specs.Listed.{content_of, contents, IsSoundAt, IsContentOf, AreCellsOf, IsFormulaOf};
+ghost use Rattle.cell_values.specs.declared.interned.TextId.{TextId};
+ghost use Rattle.demand_spec.specs.Listed.{content_of, contents, IsContentOf, IsFormulaOf};
 ghost use Rattle.demand_spec.specs.declared.Asked.TheVariants.{Needs};
-ghost use Rattle.formula_trees.specs.Expr.{expr_of};
+ghost use Rattle.formula_tokens.specs.Words.{begins_with};
 ghost use Rattle.formula_trees.specs.Sound.{IsSound};
 ghost use Rattle.shared_expressions.specs.Trees.{tree_at, depth};
 ghost use Rattle.formula_eval.specs.Evaluations.{found_as, MeansValue};
 ghost use Rattle.formula_eval.specs.Client.{book_of, look_on, Goes};
 
-use crate::spelled::{formula, is_sound};
 use crate::{Asked, Frames, Known, Look, ask, begin, resume};
-use cell_values::{Addr, Shown, TextId, Texts, Value};
-use demand_spec::{Cell, PlainBook, slow_shown};
+use cell_values::{Addr, Code, SheetNames, TextId, Texts, Value};
+use demand_spec::Cell;
+use formula_grammar::read_formula;
 use formula_trees::Tree;
 use shared_expressions::{ExprId, Pool};
 use std::alloc::{AllocError, Global};
@@ -165,181 +166,95 @@ fn told_of(told: &[(Addr, Value)], at: Addr) -> Option<Value>
     }
 }
 
-/// The next cell of a block of six columns.
-fn following(at: Addr) -> Addr
-    requires { at.row ≤ 65536 }
-    ensures { IsBefore at result }
-{
-    if at.col < 6 {
-        Addr {
-            sheet: at.sheet,
-            row: at.row,
-            col: at.col + 1,
-        }
-    } else {
-        Addr {
-            sheet: at.sheet,
-            row: at.row + 1,
-            col: 1,
-        }
-    }
-}
-
-/// A cell with a formula, or with the number 7 where nothing is spelled.
-fn cell(rt: &impl Abort, alloc: Global, text: TextId, spelling: &[u8]) -> Cell {
-    match spelling {
-        [] => Cell::Number(7),
-        _ => Cell::Formula(formula(rt, alloc, text, spelling)),
-    }
-}
-
-/// Whether a cell may stand in a book.
-fn is_cell(cell: &Cell, at: Addr, text: TextId) -> bool
-    ensures sound { IsTrue result → IsSoundAt at (content_of cell.now) }
-    ensures texts { (ts : Bytes) → IsTextOf ts text → IsTrue result → IsContentOf ts (content_of cell.now) }
-{
-    match cell {
-        Cell::Formula(tree) => is_sound(tree, at, text),
-        Cell::Text(t) => *t == text,
-        _ => true,
-    }
-}
-
-/// A cell behind all others of a plain book.
-#[tactic(auto, using(demand_spec::proofs::Small::cells_push))]
-fn put(rt: &impl Abort, book: &mut PlainBook, texts: &Texts, text: TextId, at: Addr, cell: Cell)
-    requires after { IsAfterAll at (addresses book.old) }
-    requires cells { AreCellsOf texts.now book.old }
-    requires text { IsTextOf texts.now text }
-    requires row { at.row ≤ 65536 }
-    ensures cells { AreCellsOf texts.now book.new }
-    ensures after { (next : Addr) → IsBefore at next → IsAfterAll next (addresses book.new) }
-{
-    assert!(rt; is_cell(&cell, at, text));
-    assert!(rt; 1 <= at.row && 1 <= at.col && at.col <= 256);
-    add(rt, book, at, cell);
-}
-
-fn add(rt: &impl Abort, book: &mut PlainBook, at: Addr, cell: Cell)
-    requires after { IsAfterAll at (addresses book.old) }
-    requires on_sheet { IsOnSheet at }
-    requires sound { IsSoundAt at (content_of cell) }
-    ensures { book.new ≡ book.old ++ (at, content_of cell) ∷ [] }
-{
-    assert!(rt; !book.is_full());
-    book.push(at, cell).expect(rt, "memory");
-}
-
-// What A1 to F1 and A2 to F2 hold: the last one is a plain number. G1 is empty.
-const CELLS: [&[u8]; 12] = [
-    b"2", b"T", b"#", b"U", b"\"", b"3", b"5", b"9", b"1", b"1n", b"4p", b"",
-];
-
-/// The cell of a letter.
-fn place(letter: u8) -> Addr {
-    let place = u16::from(letter.saturating_sub(b'a'));
-    Addr {
-        sheet: 0,
-        row: 1 + u32::from(place / 6),
-        col: 1 + place % 6,
-    }
-}
-
-/// The cell of the formula that is tried, behind all others.
+/// The cell of the formula that is tried.
 const HERE: Addr = Addr {
     sheet: 0,
     row: 3,
     col: 1,
 };
 
-/// The book with a formula.
-fn plain_book(
-    rt: &impl Abort,
-    alloc: Global,
-    texts: &Texts,
-    text: TextId,
-    spelling: &[u8],
-) -> PlainBook
-    requires { IsTextOf texts.now text }
-    ensures { AreCellsOf texts.now result }
+/// What the formula cells A1 to F1 and A2 to E2 show.
+fn value_of(rt: &impl Abort, at: Addr, text: TextId) -> Value
+    ensures { (ts : Bytes) → IsTextOf ts text → IsValueOf ts result }
 {
-    let mut book = PlainBook::new(alloc);
-    let mut at = place(b'a');
-    for held in CELLS {
-        assert!(rt; at.row <= 8);
-        put(rt, &mut book, texts, text, at, cell(rt, alloc, text, held));
-        at = following(at);
+    match (at.row, at.col) {
+        (1, 1) => Value::Number(2),
+        (1, 2) => Value::Bool(true),
+        (1, 3) => Value::Error(Code::Ref),
+        (1, 4) => Value::Bool(false),
+        (1, 5) => Value::Text(text),
+        (1, 6) => Value::Number(3),
+        (2, 1) => Value::Number(5),
+        (2, 2) => Value::Number(9),
+        (2, 3) => Value::Number(1),
+        (2, 4) => Value::Number(-1),
+        (2, 5) => Value::Number(4),
+        _ => panic!(rt; "no formula at {at:?}"),
     }
-    assert_eq!(rt; at, HERE);
-    put(
-        rt,
-        &mut book,
-        texts,
-        text,
-        at,
-        cell(rt, alloc, text, spelling),
-    );
-    book
 }
 
-/// The same, with nothing told.
-fn untold<'a>(
-    rt: &impl Abort,
-    alloc: Global,
-    texts: &'a Texts,
-    text: TextId,
-    spelling: &[u8],
-) -> Sheet<'a>
-    requires { IsTextOf texts.now text }
+/// A book whose cells A1 to F1 and A2 to E2 have formulas of which nothing is told. F2 holds the number 7.
+fn untold_sheet<'a>(rt: &impl Abort, alloc: Global, texts: &'a Texts) -> Sheet<'a>
     ensures { result.texts ≡ texts.now }
 {
     let mut sheet = Sheet::new(alloc, texts);
-    let mut at = place(b'a');
-    for held in CELLS {
-        let holds = cell(rt, alloc, text, held);
-        assert!(rt; is_cell(&holds, at, text) && at.row <= 8);
-        sheet.put(rt, at, holds);
-        at = following(at);
+    for place in 0..11_u16 {
+        let at = Addr {
+            sheet: 0,
+            row: 1 + u32::from(place / 6),
+            col: 1 + place % 6,
+        };
+        sheet.put(rt, at, Cell::Formula(Tree::Number(0)));
     }
-    let holds = cell(rt, alloc, text, spelling);
-    assert!(rt; is_cell(&holds, HERE, text));
-    sheet.put(rt, HERE, holds);
+    let at = Addr {
+        sheet: 0,
+        row: 2,
+        col: 6,
+    };
+    sheet.put(rt, at, Cell::Number(7));
     sheet
 }
 
-/// The value that a formula cell shows.
-fn value_shown(rt: &impl Abort, shown: &[(Addr, Shown)], at: Addr, text: TextId) -> Value
-    ensures { (ts : Bytes) → IsTextOf ts text → IsValueOf ts result }
-{
-    for (address, shows) in shown {
-        if *address == at {
-            return match *shows {
-                Shown::Val(Value::Text(t)) => {
-                    assert!(rt; t == text);
-                    Value::Text(text)
-                }
-                Shown::Val(value) => value,
-                _ => panic!(rt; "no value at {at:?}"),
-            };
-        }
+/// The name of the one sheet.
+fn names(alloc: Global) -> Result<SheetNames, AllocError> {
+    let mut files = Vec::new(alloc);
+    files.push(String::from_str(alloc, "Sheet1")?)?;
+    match SheetNames::new(alloc, &files) {
+        Ok(names) => Ok(names),
+        Err(_) => Err(AllocError),
     }
-    panic!(rt; "no formula at {at:?}")
 }
 
-/// A formula that is sound at a cell, as an expression.
-fn stored(
+/// A formula of the table, which begins with `=`.
+fn formula(alloc: Global, line: &str) -> Result<String, AllocError>
+    ensures { IfOk result (λ text. begins_with 61 (string_bytes text) ≡ true) }
+{
+    let mut text = String::from_str(alloc, "=")?;
+    text.push_str(line.strip_prefix('=').unwrap_or(line))?;
+    Ok(text)
+}
+
+/// A formula of a cell, as an expression of the pool.
+#[tactic(auto, using(crate::proofs::Client::texts_kept))]
+fn intern_formula(
     rt: &impl Abort,
     alloc: Global,
     pool: &mut Pool,
-    tree: &Tree,
+    texts: &mut Texts,
+    line: &str,
     at: Addr,
-    text: TextId,
 ) -> ExprId
+    requires { IsOnSheet at }
     ensures sound { IsSound at (tree_at pool.new result) }
-    ensures texts { (ts : Bytes) → IsTextOf ts text → IsFormulaOf ts (tree_at pool.new result) }
+    ensures meant { IsFormulaOf texts.new (tree_at pool.new result) }
+    ensures kept { (t : TextId) → IsTextOf texts.old t → IsTextOf texts.new t }
 {
-    assert!(rt; is_sound(tree, at, text));
-    pool.intern(alloc, tree).expect(rt, "memory")
+    let text = formula(alloc, line).expect(rt, "memory");
+    let names = names(alloc).expect(rt, "memory");
+    match read_formula(alloc, &text, at, &names, texts) {
+        Ok(tree) => pool.intern(alloc, &tree).expect(rt, "memory"),
+        Err(fault) => panic!(rt; "{line}: {fault:?}"),
+    }
 }
 
 /// The cell that is needed is told, and the evaluation goes on.
@@ -366,7 +281,7 @@ fn go_on<'a>(
     resume(frames, pool, texts, sheet)
 }
 
-/// An expression from the start to its value, told the cells of these letters.
+/// An expression from the start to its value, told these cells.
 fn evaluate<'a>(
     rt: &impl Abort,
     frames: &mut Frames,
@@ -376,8 +291,7 @@ fn evaluate<'a>(
     id: ExprId,
     at: Addr,
     text: TextId,
-    shown: &[(Addr, Shown)],
-    needs: &[u8],
+    needs: &str,
 ) -> Asked
     requires empty { frames.old.frames ≡ [] }
     requires room { depth (tree_at pool.now id) ≤ frames.old.room }
@@ -390,39 +304,58 @@ fn evaluate<'a>(
     ensures texts { sheet.new.texts ≡ texts.now }
 {
     let mut answer = begin(frames, pool, texts, id, at, sheet);
-    for letter in needs {
+    for word in needs.split(' ') {
         let Asked::Needs(need) = answer else {
-            panic!(rt; "{answer:?} before {letter}")
+            panic!(rt; "{answer:?} before {word}")
         };
-        assert_eq!(rt; need, place(*letter));
-        let value = value_shown(rt, shown, need, text);
+        assert_eq!(rt; Addr::read(0, word), Some(need));
+        let value = value_of(rt, need, text);
         answer = go_on(rt, frames, pool, texts, sheet, id, at, need, value);
     }
     answer
 }
 
-/// A formula needs these cells in turn, and then has the value that its cell shows. Each is looked at once,
-/// and once more where the evaluation goes on.
+/// The text of a value.
+fn show_value(
+    rt: &impl Abort,
+    alloc: Global,
+    texts: &Texts,
+    text: TextId,
+    value: Value,
+) -> Result<String, AllocError>
+    requires { IsTextOf texts.now text }
+{
+    match value {
+        Value::Text(t) => {
+            assert!(rt; t == text);
+            Value::Text(text).show_text(alloc, texts)
+        }
+        _ => value.show_text(alloc, texts),
+    }
+}
+
+/// A formula needs these cells in turn, and then has this value. Each is looked at once, and once more where
+/// the evaluation goes on.
 fn try_formula(
     rt: &impl Abort,
     alloc: Global,
-    spelling: &[u8],
-    needs: &[u8],
+    line: &str,
+    needs: &str,
+    want: &str,
 ) -> Result<(), AllocError> {
     let mut texts = Texts::new(alloc);
     let text = texts.intern("x")?;
-    let book = plain_book(rt, alloc, &texts, text, spelling);
-    let shown = slow_shown(alloc, &book, &texts)?;
-    let mut sheet = untold(rt, alloc, &texts, text, spelling);
     let mut pool = Pool::new(alloc);
-    let tree = formula(rt, alloc, text, spelling);
-    let id = stored(rt, alloc, &mut pool, &tree, HERE, text);
+    let id = intern_formula(rt, alloc, &mut pool, &mut texts, line, HERE);
+    let mut sheet = untold_sheet(rt, alloc, &texts);
     let mut frames = Frames::new(alloc, pool.depth(id))?;
 
     let lacking = ask(&mut frames, &pool, &texts, id, HERE, &mut sheet);
+    let (first, _) = needs.split_once(' ').unwrap_or((needs, ""));
     assert_eq!(rt;
-        needs.first().map(|letter| Asked::Needs(place(*letter))),
-        Some(lacking)
+        Addr::read(0, first).map(Asked::Needs),
+        Some(lacking),
+        "at {line}"
     );
     let before = sheet.looks();
     let answer = evaluate(
@@ -434,162 +367,99 @@ fn try_formula(
         id,
         HERE,
         text,
-        &shown,
         needs,
     );
-    let value = value_shown(rt, &shown, HERE, text);
-    assert_eq!(rt; answer, Asked::Val(value), "at {spelling:?}");
+    let Asked::Val(value) = answer else {
+        panic!(rt; "{answer:?} at {line}")
+    };
+    assert_eq!(rt;
+        show_value(rt, alloc, &texts, text, value)?.as_str(),
+        want,
+        "at {line}"
+    );
     let halfway = sheet.looks();
     let again = ask(&mut frames, &pool, &texts, id, HERE, &mut sheet);
     assert_eq!(rt; again, answer);
     let in_parts = halfway.saturating_sub(before);
     let at_once = sheet.looks().saturating_sub(halfway);
-    assert_eq!(rt;
-        in_parts,
-        at_once.saturating_add(needs.len() as u64),
-        "at {spelling:?}"
-    );
+    let needed = needs.split(' ').count() as u64;
+    assert_eq!(rt; in_parts, at_once.saturating_add(needed), "at {line}");
     Ok(())
 }
 
-// Formulas, and the cells that they need in turn.
-const ROWS: &[(&[u8], &[u8]); 56] = &[
-    // -A1
-    (b"an", b"a"),
-    // +A1
-    (b"ap", b"a"),
-    // A2+A1
-    (b"ga+", b"ga"),
-    // A2-A1
-    (b"ga-", b"ga"),
-    // A2*A1
-    (b"ga*", b"ga"),
-    // A2/A1
-    (b"ga/", b"ga"),
-    // A2=A1
-    (b"ga=", b"ga"),
-    // A2<>A1
-    (b"ga!", b"ga"),
-    // A2<A1
-    (b"ga<", b"ga"),
-    // A2<=A1
-    (b"ga(", b"ga"),
-    // A2>A1
-    (b"ga>", b"ga"),
-    // A2>=A1
-    (b"ga)", b"ga"),
-    // C1+A2: an error ends it
-    (b"cg+", b"c"),
-    // E1*A2: a text does not
-    (b"eg*", b"eg"),
-    // A1+A1
-    (b"aa+", b"a"),
-    // IF(B1,A1,F1)
-    (b"baf...I", b"ba"),
-    // IF(D1,A1,F1)
-    (b"daf...I", b"df"),
-    // IF(D1,A1)
-    (b"da..I", b"d"),
-    // IF(C1,A1,F1)
-    (b"caf...I", b"c"),
-    // IF(E1,A1,F1)
-    (b"eaf...I", b"e"),
-    // AND(B1,D1,A1)
-    (b"bda...A", b"bd"),
-    // AND(B1,A1,C2)
-    (b"bai...A", b"bai"),
-    // AND(B1,C1,D1)
-    (b"bcd...A", b"bc"),
-    // OR(D1,B1,A1)
-    (b"dba...O", b"db"),
-    // OR(D1,G1,A2-A1)
-    (b"dzga-...O", b"dga"),
-    // NOT(A1)
-    (b"a.N", b"a"),
-    // CHOOSE(A1,F1,A2)
-    (b"afg...C", b"ag"),
-    // CHOOSE(C2,A1,F1)
-    (b"iaf...C", b"ia"),
-    // CHOOSE(F1,A1,A2)
-    (b"fag...C", b"f"),
-    // IFERROR(C1,A1)
-    (b"ca..E", b"ca"),
-    // IFERROR(A1,C1)
-    (b"ac..E", b"a"),
-    // ISERROR(C1)
-    (b"c.R", b"c"),
-    // SUM(A1:B2): row by row
-    (b"ah:.S", b"abgh"),
-    // SUM(A1+F1,A1:B2,F2)
-    (b"af+ah:l...S", b"afbgh"),
-    // SUM(B1:C2): an error ends it
-    (b"bi:.S", b"bc"),
-    // SUM(A1,E1,A2)
-    (b"aeg...S", b"aeg"),
-    // MIN(D2:E2,A1)
-    (b"jk:a..L", b"jka"),
-    // MAX(D2:E2,A1)
-    (b"jk:a..G", b"jka"),
-    // COUNT(A1:E2)
-    (b"ak:.K", b"abc"),
-    // COUNT(D1:E2,A1+A1)
-    (b"dk:aa+..K", b"dejka"),
-    // ABS(D2)
-    (b"j.B", b"j"),
-    // MOD(A2,A1)
-    (b"ga..M", b"ga"),
-    // QUOTIENT(E1,A1)
-    (b"ea..Q", b"ea"),
-    // INDEX(A1:B2,A1,C2)
-    (b"ah:ai...X", b"aig"),
-    // INDEX(A1:B2,F1,C2)
-    (b"ah:fi...X", b"fi"),
-    // MATCH(A2,A1:B2)
-    (b"gah:..F", b"gab"),
-    // MATCH(9,A1:B2)
-    (b"9ah:..F", b"abgh"),
-    // MATCH(8,C1:G1): an error is passed over
-    (b"8cz:..F", b"cdef"),
-    // VLOOKUP(A2,A1:B2,A1)
-    (b"gah:a...V", b"gah"),
-    // VLOOKUP(A2,A1:B2,C2,FALSE)
-    (b"gah:iU....V", b"gia"),
-    // VLOOKUP(A2,A1:B2,F1)
-    (b"gah:f...V", b"gf"),
-    // HLOOKUP(B1,A1:B2,A1)
-    (b"bah:a...W", b"bah"),
-    // HLOOKUP(8,A1:B2,C2)
-    (b"8ah:i...W", b"iab"),
-    // IF(B1,SUM(A1:B2,1+F1),C1)
-    (b"bah:1f+..Sc...I", b"baghf"),
-    // IFERROR(1/D1,A1)
-    (b"1d/a..E", b"da"),
-    // NOT(AND(B1,OR(D1,A1=2)))
-    (b"bda2=..O..A.N", b"bda"),
-];
+/// Formulas over A1 2, B1 TRUE, C1 `#REF!`, D1 FALSE, E1 x, F1 3, A2 5, B2 9, C2 1, D2 -1, E2 4 and F2 7, which
+/// is no formula; with the cells that they need in turn, and their values.
+const FORMULAS: &str = "
+    =-A1 needs A1 gives -2
+    =+A1 needs A1 gives 2
+    =A2+A1 needs A2 A1 gives 7
+    =A2-A1 needs A2 A1 gives 3
+    =A2*A1 needs A2 A1 gives 10
+    =A2/A1 needs A2 A1 gives 2
+    =A2=A1 needs A2 A1 gives FALSE
+    =A2<>A1 needs A2 A1 gives TRUE
+    =A2<A1 needs A2 A1 gives FALSE
+    =A2<=A1 needs A2 A1 gives FALSE
+    =A2>A1 needs A2 A1 gives TRUE
+    =A2>=A1 needs A2 A1 gives TRUE
+    =C1+A2 needs C1 gives #REF!
+    =E1*A2 needs E1 A2 gives #VALUE!
+    =A1+A1 needs A1 gives 4
+    =E1 needs E1 gives x
+    =IF(B1,A1,F1) needs B1 A1 gives 2
+    =IF(D1,A1,F1) needs D1 F1 gives 3
+    =IF(D1,A1) needs D1 gives FALSE
+    =IF(C1,A1,F1) needs C1 gives #REF!
+    =IF(E1,A1,F1) needs E1 gives #VALUE!
+    =IF(B1,\"x\",A1) needs B1 gives x
+    =AND(B1,D1,A1) needs B1 D1 gives FALSE
+    =AND(B1,A1,C2) needs B1 A1 C2 gives TRUE
+    =AND(B1,C1,D1) needs B1 C1 gives #REF!
+    =OR(D1,B1,A1) needs D1 B1 gives TRUE
+    =OR(D1,G1,A2-A1) needs D1 A2 A1 gives TRUE
+    =NOT(A1) needs A1 gives FALSE
+    =CHOOSE(A1,F1,A2) needs A1 A2 gives 5
+    =CHOOSE(C2,A1,F1) needs C2 A1 gives 2
+    =CHOOSE(F1,A1,A2) needs F1 gives #VALUE!
+    =IFERROR(C1,A1) needs C1 A1 gives 2
+    =IFERROR(A1,C1) needs A1 gives 2
+    =ISERROR(C1) needs C1 gives TRUE
+    =SUM(A1:B2) needs A1 B1 A2 B2 gives 16
+    =SUM(A1+F1,A1:B2,F2) needs A1 F1 B1 A2 B2 gives 28
+    =SUM(B1:C2) needs B1 C1 gives #REF!
+    =SUM(A1,E1,A2) needs A1 E1 A2 gives 7
+    =MIN(D2:E2,A1) needs D2 E2 A1 gives -1
+    =MAX(D2:E2,A1) needs D2 E2 A1 gives 4
+    =COUNT(A1:E2) needs A1 B1 C1 gives #REF!
+    =COUNT(D1:E2,A1+A1) needs D1 E1 D2 E2 A1 gives 3
+    =ABS(D2) needs D2 gives 1
+    =MOD(A2,A1) needs A2 A1 gives 1
+    =QUOTIENT(E1,A1) needs E1 A1 gives #VALUE!
+    =INDEX(A1:B2,A1,C2) needs A1 C2 A2 gives 5
+    =INDEX(A1:B2,F1,C2) needs F1 C2 gives #REF!
+    =MATCH(A2,A1:B2) needs A2 A1 B1 gives 3
+    =MATCH(9,A1:B2) needs A1 B1 A2 B2 gives 4
+    =MATCH(8,C1:G1) needs C1 D1 E1 F1 gives #N/A
+    =VLOOKUP(A2,A1:B2,A1) needs A2 A1 B2 gives 9
+    =VLOOKUP(A2,A1:B2,C2,FALSE) needs A2 C2 A1 gives 5
+    =VLOOKUP(A2,A1:B2,F1) needs A2 F1 gives #REF!
+    =HLOOKUP(B1,A1:B2,A1) needs B1 A1 B2 gives 9
+    =HLOOKUP(8,A1:B2,C2) needs C2 A1 B1 gives #N/A
+    =IF(B1,SUM(A1:B2,1+F1),C1) needs B1 A1 A2 B2 F1 gives 20
+    =IFERROR(1/D1,A1) needs D1 A1 gives 2
+    =NOT(AND(B1,OR(D1,A1=2))) needs B1 D1 A1 gives FALSE
+";
 
 #[test]
 fn formulas_go_on_where_they_stopped(rt: HostRuntime) -> Result<(), Fail> {
-    for (spelling, needs) in ROWS {
-        try_formula(&rt, rt.alloc(), spelling, needs)?;
+    for line in FORMULAS.lines() {
+        let Some((formula, needs)) = line.trim_start().split_once(" needs ") else {
+            continue;
+        };
+        let Some((needs, want)) = needs.split_once(" gives ") else {
+            continue;
+        };
+        try_formula(&rt, rt.alloc(), formula, needs, want)?;
     }
-    Ok(())
-}
-
-#[test]
-fn a_reference_needs_its_cell(rt: HostRuntime) -> Result<(), Fail> {
-    let alloc = rt.alloc();
-    let mut texts = Texts::new(alloc);
-    let text = texts.intern("x")?;
-    let at = place(b'a');
-    let mut sheet = Sheet::new(alloc, &texts);
-    sheet.put(&rt, place(b'b'), Cell::Formula(Tree::Number(1)));
-    let mut pool = Pool::new(alloc);
-    let tree = formula(&rt, alloc, text, b"b");
-    let id = stored(&rt, alloc, &mut pool, &tree, at, text);
-    assert!(rt; pool.depth(id) <= 4);
-    let mut frames = Frames::new(alloc, 4)?;
-    let answer = begin(&mut frames, &pool, &texts, id, at, &mut sheet);
-    assert_eq!(rt; answer, Asked::Needs(place(b'b')));
     Ok(())
 }
