@@ -1,6 +1,7 @@
 -- The cells of the small books of tests.
 use Rattle.std.proofs.Common.{◌≡◌, ◌&&◌, true, nat_le, pos, None, List, [], ◌∷◌, ◌++◌, refl, sym, subst, ◌∙◌, arith}
 use Rattle.cell_values.specs.declared.address.Addr.{Addr}
+use Rattle.cell_values.specs.declared.TheConstants.{LAST_COLUMN, LAST_ROW}
 use Rattle.cell_values.specs.Addresses.{IsOnSheet}
 use Rattle.cell_values.specs.Texts.{Texts}
 use Rattle.formula_trees.specs.declared.tree.Fun.{Fun}
@@ -16,7 +17,7 @@ use Rattle.demand_spec.specs.Listed.{IsContentOf, AreCellsOf}
 pub reference_sound : (at to : Addr) → IsOnSheet to → IsSound at (Ref (record { sheet = None; col = Part.At to.col; row = Part.At to.row }))
 unfolding resolve
 reference_sound at to o = record {
-  shape = (let e : (nat_le 1 to.col && nat_le to.col 256) ≡ true = grind (arith, o.col_from, o.col_to) in let d : (nat_le 1 to.row && nat_le to.row 65536) ≡ true = grind (arith, o.row_from, o.row_to) in rw (e, d) refl);
+  shape = (let e : (nat_le 1 to.col && nat_le to.col LAST_COLUMN) ≡ true = grind (arith, o.col_from, o.col_to) in let d : (nat_le 1 to.row && nat_le to.row LAST_ROW) ≡ true = grind (arith, o.row_from, o.row_to) in rw (e, d) refl);
   small = omega arith;
   flat = omega arith;
 }

@@ -70,7 +70,8 @@ pub record IsLoop (b : Book) (s : Addr) (rest : List Addr) : Type 0 where
   pub apart : Distinct (s ∷ rest)
   pub period : (c : Addr) → In c (s ∷ rest) → HasPeriod b c (length (s ∷ rest))
 
--- a stack whose top needs one of its own cells closes a loop of `need` there
+-- a stack whose top needs one of its own cells closes a loop of `need`: the cells from that one up, and no other, so
+-- the loop is as long as these are many
 abbrev pub StackCloses : Type 0
 StackCloses = (b : Book) (below : List Addr) (s : Addr) (rest : List Addr) →
     Distinct (below ++ s ∷ rest) → Chain b (below ++ s ∷ rest) s → IsLoop b s rest

@@ -10,7 +10,7 @@ ghost use Rattle.formula_trees.specs.Sound.{IsSound};
 use crate::all_rounds::finish;
 use crate::context::Stage;
 use crate::{Asked, Cell, PlainBook, slow_shown};
-use cell_values::{Addr, Code, Int, Shown, TextId, Texts, Value};
+use cell_values::{Addr, Code, Int, LAST_COLUMN, Shown, TextId, Texts, Value};
 use formula_trees::{Args, Fun, Op, Part, Reference, Sign, Tree};
 use std::alloc::{AllocError, Global};
 use std::process::Abort;
@@ -87,7 +87,7 @@ fn book_of(rt: &impl Abort, alloc: Global, texts: &Texts, columns: &[u16]) -> Pl
     let mut book = PlainBook::new(alloc);
     let mut col = 0;
     for &to in columns {
-        assert!(rt; col < 256 && to <= 256);
+        assert!(rt; col < LAST_COLUMN && to <= LAST_COLUMN);
         col += 1;
         if to == 0 {
             put(rt, &mut book, texts, place(1, col), Cell::Number(7));
