@@ -12,3 +12,4 @@ pub mod Given
 pub mod Like
 pub mod Edits
 pub mod Results
+pub mod Sheets

@@ -20,7 +20,7 @@ use Rattle.puncalc_program.specs.Loading.{the_names, content_read, loaded, unles
 use Rattle.puncalc_program.specs.declared.refusals.Refusal.{Refusal}
 use Rattle.puncalc_program.specs.Refusals.{refusal_status, IsInSheet}
 use Rattle.puncalc_program.specs.Faults.{AddsField, appended, IsLoadFault, IsOfSheet, load_fault_of}
-use Rattle.puncalc_program.specs.Sheets.{last_row, last_column}
+use Rattle.demand_spec.specs.Sheets.{last_row, last_column}
 use Rattle.puncalc_program.specs.Recalculated.{IsExtent, IsLoaded}
 
 mutual

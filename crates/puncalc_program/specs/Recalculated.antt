@@ -8,7 +8,7 @@ use Rattle.cell_values.specs.Order.{entry_at}
 use Rattle.cell_values.specs.Values.{IsShownOf}
 use Rattle.demand_spec.specs.Book.{Book, Content, own, shown}
 use Rattle.demand_spec.specs.Listed.{AreCellsOf}
-use Rattle.puncalc_program.specs.Sheets.{last_row, last_column}
+use Rattle.demand_spec.specs.Sheets.{last_row, last_column}
 
 -- the result, or the cell's own value where there is none
 abbrev pub result_or : Option Shown → Value → Shown

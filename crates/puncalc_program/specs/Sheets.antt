@@ -1,18 +1,11 @@
 -- How a sheet is written.
-use Rattle.std.specs.Prelude.{ℕ, ◌==◌, cond, max, List, map, fold}
+use Rattle.std.specs.Prelude.{ℕ, List, map}
 use Rattle.cell_values.specs.declared.address.Addr.{Addr}
 use Rattle.cell_values.specs.Areas.{numbers_from}
 use Rattle.cell_values.specs.ShownText.{shown_text}
-use Rattle.demand_spec.specs.Book.{Book, Content, shown}
+use Rattle.demand_spec.specs.Book.{Book, shown}
+use Rattle.demand_spec.specs.Sheets.{last_row, last_column}
 use Rattle.sheet_csv.specs.Row.{row_text}
-
--- the last row of the sheet that holds a cell, 0 where none does
-abbrev pub last_row : ℕ → List (Addr × Content) → ℕ
-last_row sheet cells = fold (λ n c. cond (c.0.sheet == sheet) (max n c.0.row) n) 0 cells
-
--- the last column of the sheet that holds a cell, 0 where none does
-abbrev pub last_column : ℕ → List (Addr × Content) → ℕ
-last_column sheet cells = fold (λ n c. cond (c.0.sheet == sheet) (max n c.0.col) n) 0 cells
 
 -- the text that a cell shows
 abbrev pub cell_shows : Book → Addr → List ℕ

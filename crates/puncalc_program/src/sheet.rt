@@ -5,7 +5,8 @@ ghost use Rattle.std.specs.List.{concat};
 ghost use Rattle.cell_values.specs.declared.address.Addr.{Addr};
 ghost use Rattle.cell_values.specs.Order.{entry_at};
 ghost use Rattle.puncalc_program.specs.Recalculated.{result_or};
-ghost use Rattle.puncalc_program.specs.Sheets.{cell_shows, last_column, last_row, row_texts, sheet_row, sheet_rows};
+ghost use Rattle.demand_spec.specs.Sheets.{last_column, last_row};
+ghost use Rattle.puncalc_program.specs.Sheets.{cell_shows, row_texts, sheet_row, sheet_rows};
 ghost use Rattle.puncalc_program.specs.Run.{StopsWritingFor, Writes};
 
 use crate::load::Loaded;

@@ -1,7 +1,8 @@
 use Rattle.std.proofs.Common.{ℕ, List, ◌<◌, ◌≤◌, subst, arith}
 use Rattle.std.proofs.lemmas.Result.{err_from_is_err_and}
 use Rattle.byte_streams.specs.Streams.{AppendsPart}
-use Rattle.puncalc_program.specs.Sheets.{sheet_row, last_row}
+use Rattle.demand_spec.specs.Sheets.{last_row}
+use Rattle.puncalc_program.specs.Sheets.{sheet_row}
 use Rattle.puncalc_program.proofs.Written.{some_rows, part_of_rows}
 use Rattle.puncalc_program.proofs.sheet.write_sheet.Goals as goal
 
