@@ -1,5 +1,5 @@
 -- What a formula names: its mentions and its areas.
-use Rattle.std.proofs.Common.{◌≡◌, ℕ, zero, suc, ◌+◌, ◌<◌, ◌≤◌, min, Option, Some, None, Result, Ok, Err, List, [], ◌∷◌, ◌++◌, map, flat_map, length, drop, get_or, refl, sym, ap, ◌∙◌, subst, arith, length-append}
+use Rattle.std.proofs.Common.{◌≡◌, ℕ, zero, suc, ◌+◌, ◌<◌, ◌≤◌, min, Option, Some, None, Result, Ok, Err, List, [], ◌∷◌, ◌++◌, map, flat_map, length, drop, get_or, refl, sym, ap, ◌∙◌, subst, arith, append_assoc, length-append}
 use Rattle.std.specs.Prelude.{option_to_list, slice_get}
 use Rattle.std.proofs.lemmas.Grind.{flat_map-append}
 use Rattle.std.proofs.lemmas.List.{append-nil}
@@ -124,3 +124,13 @@ nothing_left (x ∷ xs) (suc j) h = nothing_left xs j (omega arith)
 
 pub picks_end : (at : Addr) (p : Trees) (xs : List ℕ) (k j l : ℕ) → PicksOn at p xs k j l → length xs ≤ j → k ≡ length (areas_below at p xs) + l
 picks_end at p xs k j l h m = h (Err l) (let e : length (areas_below at p (drop j xs)) ≡ 0 = ap (λ z. length (areas_below at p z)) (nothing_left xs j m) in omega arith)
+
+-- All areas of the children, one child after the other
+
+pub one_child_more : (at : Addr) (p : Trees) (xs : List ℕ) (j c : ℕ) (out next whole : List Area) → j < length xs → c ≡ get_or xs j 0 → next ≡ out ++ areas at (expr_at p c) → out ++ areas_below at p (drop j xs) ≡ whole → next ++ areas_below at p (drop (j + 1) xs) ≡ whole
+one_child_more at p xs j c out next whole h e f g =
+    ap (λ z. z ++ areas_below at p (drop (j + 1) xs)) f ∙ append_assoc out (areas at (expr_at p c)) (areas_below at p (drop (j + 1) xs))
+    ∙ (λ i. out ++ (areas at (expr_at p (e i)) ++ areas_below at p (drop (j + 1) xs))) ∙ ap (λ z. out ++ z) (sym (split_at at p xs j h)) ∙ g
+
+pub no_child_left : (at : Addr) (p : Trees) (xs : List ℕ) (j : ℕ) (out whole : List Area) → length xs ≤ j → out ++ areas_below at p (drop j xs) ≡ whole → out ≡ whole
+no_child_left at p xs j out whole h e = sym (append-nil out) ∙ ap (λ z. out ++ areas_below at p z) (sym (nothing_left xs j h)) ∙ e

@@ -1,12 +1,12 @@
 //! Pools of expressions.
-ghost use Rattle.std.specs.Prelude.{◌≡◌, ◌≤◌, ◌+◌, length, IfOk, IfSome, option_map, [], slice_get};
+ghost use Rattle.std.specs.Prelude.{◌≡◌, ◌≤◌, ◌+◌, ◌++◌, length, All, IfOk, OnOk, OnErr, IfSome, option_map, [], slice_get};
 ghost use Rattle.cell_values.specs.Areas.{IsArea};
 ghost use Rattle.formula_trees.specs.Expr.{expr_of};
 ghost use Rattle.formula_trees.specs.Mentions.{areas};
 ghost use Rattle.formula_trees.specs.Sound.{nodes};
 ghost use Rattle.shared_expressions.specs.Trees.{root_of, tree_at, child_of, depth, KeepsTrees, StandsFor, IsThere};
 
-use crate::areas::area_from;
+use crate::areas::{area_from, push_areas};
 use crate::copies::tree_from;
 use crate::nodes::{ExprId, Node};
 use crate::store::{Store, entry_at, intern_tree, part};
@@ -107,5 +107,17 @@ impl Pool {
         ensures within { IfSome result IsArea }
     {
         area_from(&self.store, id.0, at, k).ok()
+    }
+
+    /// Appends all its references and ranges as areas, from left to right. Those that lie outside the
+    /// sheet at the cell are left out.
+    pub fn areas(&self, id: ExprId, at: Addr, out: &mut Vec<Area>) -> Result<(), AllocError>
+        ensures ok { OnOk result (out.new.items ≡ out.old.items ++ areas at (tree_at self.now id)) }
+        ensures within { OnOk result (All IsArea (areas at (tree_at self.now id))) }
+        ensures err { OnErr result (out.new.items ≡ out.old.items) }
+    {
+        let mut found = Vec::new(*out.allocator());
+        push_areas(&self.store, id.0, at, &mut found)?;
+        out.extend_from_slice(&found)
     }
 }

@@ -12,42 +12,19 @@ use Rattle.shared_expressions.proofs.Named.{mentions_are_areas}
 use Rattle.demand_spec.specs.Book.{Book, formula_at}
 use Rattle.demand_spec.specs.Laws as laws
 use Rattle.demand_spec.specs.Laws.{In, Mentions, Pending}
-use Rattle.demand_spec.proofs.Local.{pending_is_closed}
-use Rattle.demand_spec.proofs.Walks.{in_walk, walk_parts}
+use Rattle.demand_spec.proofs.Spread.{pending_list_is_closed}
+use Rattle.demand_spec.proofs.Members.{walked_inside, inside_walked}
+use Rattle.demand_spec.proofs.Walks.{in_either, in_left, in_right}
 use Rattle.support_graph.specs.Support.{CellAreas, hold, IsCell, Reads, IsSupportOf}
 use Rattle.support_graph.specs.Pending.{Reached, start, step, IsPendingAfter, StayClosed}
-use Rattle.support_graph.proofs.Visits.{in_has, has_in, in_append, in_left, in_right}
 use Rattle.support_graph.proofs.Readers.{inside, from_inside}
 use Rattle.support_graph.proofs.Truths.{or_right}
-
-walked_inside : (r : Area) (a : Addr) → In a (walk r) → is_inside r a ≡ true
-unfolding height width
-walked_inside r a m =
-    let p = walk_parts r a m in
-    let h = p.high in
-    let w = p.wide in
-    subst (λ z. is_inside r z ≡ true) (sym p.same) (from_inside r (cell_of r p.i p.j) (record { sheet = grind arith; top = omega arith; bottom = omega (arith, h); left = omega arith; right = omega (arith, w) }))
-
-inside_walked : (r : Area) (a : Addr) → is_inside r a ≡ true → In a (walk r)
-unfolding height width
-inside_walked r a h =
-    let p = inside r a h in
-    let t = p.top in
-    let b = p.bottom in
-    let l = p.left in
-    let w = p.right in
-    let e = p.sheet in
-    let sheet : r.sheet ≡ a.sheet = grind (arith, e) in
-    let row : r.top + (a.row - r.top) ≡ a.row = omega (arith, t) in
-    let col : r.left + (a.col - r.left) ≡ a.col = omega (arith, l) in
-    let same : cell_of r (a.row - r.top) (a.col - r.left) ≡ a = (λ i. record { sheet = sheet i; row = row i; col = col i }) in
-    subst (λ z. In z (walk r)) same (in_walk r (a.row - r.top) (a.col - r.left) (omega (arith, t, b)) (omega (arith, l, w)))
 
 -- the cells that areas hold are those of their walks
 
 walked_held : (areas : List Area) (a : Addr) → In a (flat_map walk areas) → hold areas a ≡ true
 walked_held [] a m = elim m [ ]
-walked_held (r ∷ areas) a m = go (in_append a (walk r) (flat_map walk areas) m) (walked_held areas a)
+walked_held (r ∷ areas) a m = go (in_either a (walk r) (flat_map walk areas) m) (walked_held areas a)
   where
     go : In a (walk r) ⊎ In a (flat_map walk areas) → (In a (flat_map walk areas) → hold areas a ≡ true) → (is_inside r a || hold areas a) ≡ true
     go (inl k) f = (λ i. walked_inside r a k i || hold areas a)
@@ -101,13 +78,4 @@ pending_in_book b s h old new area k c = (λ (m : In c new). to ((k c).0 m), λ 
 
 -- and what was closed stays so
 pub closed_in_book : (s : CellAreas) (old new : List Addr) (area : Area) → ((c : Addr) → In c new ↔ IsPendingAfter s old area c) → StayClosed s old area new
-closed_in_book s old new area k b b' h closed outside c a m n = (pending_in_book b' s h old new area k c).1 (set_to c (pending_is_closed b b' (λ x. list_any (same_addr x) old) (is_inside area) set_closed outside c a (to_set a ((pending_in_book b' s h old new area k a).0 m)) n))
-  where
-    set_closed : laws.IsClosed b (λ x. list_any (same_addr x) old ≡ true)
-    set_closed d e p q = in_has d old (closed d e (has_in e old p) q)
-
-    to_set : (x : Addr) → Pending b' (λ d. In d old) (λ d. is_inside area d ≡ true) x → Pending b' (λ d. list_any (same_addr d) old ≡ true) (λ d. is_inside area d ≡ true) x
-    to_set x p = (p.0, ⊎_elim (λ (q : In x old). inl (in_has x old q)) (λ (q : laws.Reached b' (λ d. is_inside area d ≡ true) x). inr q) p.1)
-
-    set_to : (x : Addr) → Pending b' (λ d. list_any (same_addr d) old ≡ true) (λ d. is_inside area d ≡ true) x → Pending b' (λ d. In d old) (λ d. is_inside area d ≡ true) x
-    set_to x p = (p.0, ⊎_elim (λ (q : list_any (same_addr x) old ≡ true). inl (has_in x old q)) (λ (q : laws.Reached b' (λ d. is_inside area d ≡ true) x). inr q) p.1)
+closed_in_book s old new area k b b' h closed outside c a m n = (pending_in_book b' s h old new area k c).1 (pending_list_is_closed b b' old (is_inside area) closed outside c a ((pending_in_book b' s h old new area k a).0 m) n)

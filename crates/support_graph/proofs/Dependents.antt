@@ -7,43 +7,10 @@ use Rattle.cell_values.specs.Addresses.{same_addr, IsBefore}
 use Rattle.cell_values.specs.Order.{IsBeforeAll, InOrder, addresses, entry_at}
 use Rattle.cell_values.proofs.Order.{same_addr-true, same_addr-refl, never_before, before_apart}
 use Rattle.demand_spec.specs.Laws.{In}
+use Rattle.demand_spec.proofs.OneList.{before_member, one_list}
 use Rattle.support_graph.specs.declared.search.Search.{Search}
 use Rattle.support_graph.specs.Support.{CellAreas, hold, dependents_of, IsCell, Reads}
 use Rattle.support_graph.specs.Steps.{Visits}
-
-pub before_in : (a c : Addr) (xs : List Addr) → IsBeforeAll a xs → In c xs → IsBefore a c
-before_in a c [] h m = elim m [ ]
-before_in a c (x ∷ xs) h (inl e) = subst (IsBefore a) (sym e) h.0
-before_in a c (x ∷ xs) h (inr m) = before_in a c xs h.1 m
-
--- lists in order with the same cells are the same
-pub same_in_order : (xs ys : List Addr) → InOrder xs → InOrder ys → ((c : Addr) → In c xs → In c ys) → ((c : Addr) → In c ys → In c xs) → xs ≡ ys
-same_in_order [] [] h k f g = refl
-same_in_order [] (y ∷ ys) h k f g = absurd (g y (inl refl))
-same_in_order (x ∷ xs) [] h k f g = absurd (f x (inl refl))
-same_in_order (x ∷ xs) (y ∷ ys) h k f g = (λ i. first i ∷ same_in_order xs ys h.1 k.1 to from i)
-  where
-    first : x ≡ y
-    first = go (f x (inl refl)) (g y (inl refl))
-      where
-        go : In x (y ∷ ys) → In y (x ∷ xs) → x ≡ y
-        go (inl e) m = e
-        go (inr m) (inl e) = sym e
-        go (inr m) (inr n) = absurd (before_apart x y (before_in x y xs h.0 n) (before_in y x ys k.0 m))
-
-    to : (c : Addr) → In c xs → In c ys
-    to c m = go (f c (inr m))
-      where
-        go : In c (y ∷ ys) → In c ys
-        go (inl e) = absurd (never_before x (subst (IsBefore x) (e ∙ sym first) (before_in x c xs h.0 m)))
-        go (inr n) = n
-
-    from : (c : Addr) → In c ys → In c xs
-    from c m = go (g c (inr m))
-      where
-        go : In c (x ∷ xs) → In c xs
-        go (inl e) = absurd (never_before y (subst (IsBefore y) (e ∙ first) (before_in y c ys k.0 m)))
-        go (inr n) = n
 
 -- the dependents are in order
 
@@ -66,7 +33,7 @@ dependents_in_order a (e ∷ s) h = go (hold e.1 a) (dependents_in_order a s h.1
 -- and they are the cells that read the cell
 
 before_dependent : (a b c : Addr) (s : CellAreas) → IsBeforeAll b (addresses s) → In c (dependents_of s a) → IsBefore b c
-before_dependent a b c s h m = before_in b c (dependents_of s a) (later a b s h) m
+before_dependent a b c s h m = before_member b (dependents_of s a) c (later a b s h) m
 
 pub dependent_reads : (a c : Addr) (s : CellAreas) → InOrder (addresses s) → In c (dependents_of s a) → Reads s c a
 dependent_reads a c [] h m = elim m [ ]
@@ -105,7 +72,7 @@ reader_is_dependent a c (e ∷ s) m = go (same_addr c e.0) refl m (reader_is_dep
 
 -- what a search from nothing sees is the dependents
 pub seen_dependents : (a : Addr) (s : CellAreas) (x y : Search) → InOrder (addresses s) → x.seen.keys ≡ [] → x.pending.now ≡ [] → InOrder y.seen.keys → Visits (λ c. Reads s c a) x y → y.seen.keys ≡ dependents_of s a
-seen_dependents a s x y h none free order v = same_in_order y.seen.keys (dependents_of s a) order (dependents_in_order a s h) to from
+seen_dependents a s x y h none free order v = one_list y.seen.keys (dependents_of s a) order (dependents_in_order a s h) (λ c. (to c, from c))
   where
     to : (c : Addr) → In c y.seen.keys → In c (dependents_of s a)
     to c m = go (v.only c m)

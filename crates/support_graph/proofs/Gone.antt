@@ -8,9 +8,9 @@ use Rattle.cell_values.specs.Areas.{cell_of, is_inside}
 use Rattle.cell_values.specs.Order.{InOrder}
 use Rattle.cell_values.proofs.Order.{before_trans}
 use Rattle.demand_spec.specs.Laws.{In}
+use Rattle.demand_spec.proofs.OneList.{before_member}
 use Rattle.support_graph.specs.Support.{CellAreas, IsCell}
 use Rattle.support_graph.proofs.Readers.{inside}
-use Rattle.support_graph.proofs.Dependents.{before_in}
 use Rattle.support_graph.proofs.Lists.{no_addr, found_behind, dropped_in_order}
 use Rattle.support_graph.proofs.Reach.{take_more}
 
@@ -67,7 +67,7 @@ rest_there s r a b pending first k order e f h l behind there = behind_first s r
 
     later : (c : Addr) → In c (next ∷ drop (suc k) rest) → InOrder (next ∷ drop (suc k) rest) → IsBefore b c
     later c (inl g) o = subst (IsBefore b) (sym g) behind
-    later c (inr n) o = before_trans b next c behind (before_in next c (drop (suc k) rest) o.0 n)
+    later c (inr n) o = before_trans b next c behind (before_member next (drop (suc k) rest) c o.0 n)
 
     go : (c : Addr) → is_inside r c ≡ true → In c (take k rest) ⊎ In c (drop k rest) → IsCell s c
     go c i (inl n) = there c n i

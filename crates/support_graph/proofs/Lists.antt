@@ -12,10 +12,11 @@ use Rattle.cell_values.specs.Areas.{is_inside}
 use Rattle.cell_values.specs.Order.{IsBeforeAll, InOrder, entry_at}
 use Rattle.cell_values.proofs.Order.{cmp, cmp_less, cmp_equal, cmp_greater, never_before, before_apart, before_trans}
 use Rattle.demand_spec.specs.Laws.{In}
+use Rattle.demand_spec.proofs.Walks.{in_either, in_left, in_right}
+use Rattle.demand_spec.proofs.OneList.{before_member}
+use Rattle.demand_spec.proofs.Spread.{filter_in, in_filter}
 use Rattle.support_graph.specs.Support.{CellAreas, IsCell}
 use Rattle.support_graph.specs.Steps.{TookOne, stays}
-use Rattle.support_graph.proofs.Visits.{in_append, in_left, in_right}
-use Rattle.support_graph.proofs.Dependents.{before_in}
 
 -- places
 
@@ -38,7 +39,7 @@ in_taken c (suc i) (x ∷ xs) (inr m) = (let p = in_taken c i xs m in (suc p.0, 
 places_in_order : (xs : List Addr) (i j : ℕ) (d : Addr) → InOrder xs → i < j → j < length xs → IsBefore (get_or xs i d) (get_or xs j d)
 places_in_order [] i j d h l m = absurd (omega (arith, m))
 places_in_order (x ∷ xs) i zero d h l m = absurd (omega (arith, l))
-places_in_order (x ∷ xs) zero (suc j) d h l m = before_in x (get_or xs j d) xs h.0 (place_in xs j d (omega (arith, m)))
+places_in_order (x ∷ xs) zero (suc j) d h l m = before_member x xs (get_or xs j d) h.0 (place_in xs j d (omega (arith, m)))
 places_in_order (x ∷ xs) (suc i) (suc j) d h l m = places_in_order xs i j d h.1 (omega (arith, l)) (omega (arith, m))
 
 -- what a search tells
@@ -145,7 +146,7 @@ old_merged : (x y : Addr) (all xs ys old new : List Addr) → IsBefore x y → M
 old_merged x y all xs ys old new b m = record {
   first = subst InOrder (sym (append_assoc all (x ∷ []) xs)) m.first;
   second = put_between x all xs (y ∷ ys) m.first m.second (b, all_behind x y ys b (rest_in_order all (y ∷ ys) m.second).0);
-  only = λ c k. taken c (in_append c all (x ∷ []) k);
+  only = λ c k. taken c (in_either c all (x ∷ []) k);
   old_left = λ c k. m.old_left c (inr k);
   new_left = m.new_left;
   olds = λ c k. moved c (m.olds c k);
@@ -167,7 +168,7 @@ new_merged : (x y : Addr) (all xs ys old new : List Addr) → IsBefore y x → M
 new_merged x y all xs ys old new b m = record {
   first = put_between y all ys (x ∷ xs) m.second m.first (b, all_behind y x xs b (rest_in_order all (x ∷ xs) m.first).0);
   second = subst InOrder (sym (append_assoc all (y ∷ []) ys)) m.second;
-  only = λ c k. taken c (in_append c all (y ∷ []) k);
+  only = λ c k. taken c (in_either c all (y ∷ []) k);
   old_left = m.old_left;
   new_left = λ c k. m.new_left c (inr k);
   olds = λ c k. longer c (m.olds c k);
@@ -237,14 +238,14 @@ merged_order all xs ys old new m (inl e) = subst (λ z. InOrder (z ++ ys)) (sym 
 merged_order all xs ys old new m (inr e) = subst InOrder (sym (ap (λ z. (all ++ xs) ++ z) e ∙ append-nil (all ++ xs))) m.first
 
 pub merged_cells : (all xs ys old new : List Addr) → Merging all xs ys old new → (c : Addr) → In c ((all ++ xs) ++ ys) ↔ (In c old ⊎ In c new)
-merged_cells all xs ys old new m c = (λ (k : In c ((all ++ xs) ++ ys)). to (in_append c (all ++ xs) ys k), λ (k : In c old ⊎ In c new). back k)
+merged_cells all xs ys old new m c = (λ (k : In c ((all ++ xs) ++ ys)). to (in_either c (all ++ xs) ys k), λ (k : In c old ⊎ In c new). back k)
   where
     inner : In c all ⊎ In c xs → In c old ⊎ In c new
     inner (inl k) = m.only c k
     inner (inr k) = inl (m.old_left c k)
 
     to : In c (all ++ xs) ⊎ In c ys → In c old ⊎ In c new
-    to (inl k) = inner (in_append c all xs k)
+    to (inl k) = inner (in_either c all xs k)
     to (inr k) = inr (m.new_left c k)
 
     front : In c all ⊎ In c xs → In c ((all ++ xs) ++ ys)
@@ -255,46 +256,9 @@ merged_cells all xs ys old new m c = (λ (k : In c ((all ++ xs) ++ ys)). to (in_
     back (inl k) = front (m.olds c k)
     back (inr k) = ⊎_elim (λ (n : In c all ⊎ In c xs). front n) (λ (n : In c ys). in_right c (all ++ xs) ys n) (m.news c k)
 
--- cells that pass a test
-
-in_filtered : (p : Addr → Bool) (c : Addr) (xs : List Addr) → In c (filter p xs) → In c xs × (p c ≡ true)
-in_filtered p c [] m = elim m [ ]
-in_filtered p c (x ∷ xs) m = go (p x) refl m (in_filtered p c xs)
-  where
-    go : (q : Bool) → p x ≡ q → In c (cond q (x ∷ filter p xs) (filter p xs)) → (In c (filter p xs) → In c xs × (p c ≡ true)) → In c (x ∷ xs) × (p c ≡ true)
-    go true e (inl k) f = (inl k, ap p k ∙ e)
-    go true e (inr k) f = (inr (f k).0, (f k).1)
-    go false e k f = (inr (f k).0, (f k).1)
-
-filtered_in : (p : Addr → Bool) (c : Addr) (xs : List Addr) → In c xs → p c ≡ true → In c (filter p xs)
-filtered_in p c [] m h = elim m [ ]
-filtered_in p c (x ∷ xs) m h = go (p x) refl m (filtered_in p c xs)
-  where
-    go : (q : Bool) → p x ≡ q → In c (x ∷ xs) → (In c xs → p c ≡ true → In c (filter p xs)) → In c (cond q (x ∷ filter p xs) (filter p xs))
-    go true e (inl k) f = inl k
-    go true e (inr k) f = inr (f k h)
-    go false e (inl k) f = absurd (let g : true ≡ false = sym h ∙ ap p k ∙ e in cc)
-    go false e (inr k) f = f k h
-
-filtered_before : (p : Addr → Bool) (a : Addr) (xs : List Addr) → IsBeforeAll a xs → IsBeforeAll a (filter p xs)
-filtered_before p a [] h = tt
-filtered_before p a (x ∷ xs) h = go (p x) (filtered_before p a xs h.1)
-  where
-    go : (q : Bool) → IsBeforeAll a (filter p xs) → IsBeforeAll a (cond q (x ∷ filter p xs) (filter p xs))
-    go true k = (h.0, k)
-    go false k = k
-
-pub filtered_in_order : (p : Addr → Bool) (xs : List Addr) → InOrder xs → InOrder (filter p xs)
-filtered_in_order p [] h = tt
-filtered_in_order p (x ∷ xs) h = go (p x) (filtered_in_order p xs h.1)
-  where
-    go : (q : Bool) → InOrder (filter p xs) → InOrder (cond q (x ∷ filter p xs) (filter p xs))
-    go true k = (filtered_before p x xs h.0, k)
-    go false k = k
-
 -- the cells that stay, by their test
 pub staying : (s : CellAreas) (area : Area) (old : List Addr) (c : Addr) → In c (filter (stays s area) old) ↔ (In c old × (is_inside area c ≡ true → IsCell s c))
-staying s area old c = (λ (m : In c (filter (stays s area) old)). to (in_filtered (stays s area) c old m), λ (m : In c old × (is_inside area c ≡ true → IsCell s c)). back m.0 m.1)
+staying s area old c = (λ (m : In c (filter (stays s area) old)). to (filter_in (stays s area) old c m), λ (m : In c old × (is_inside area c ≡ true → IsCell s c)). back m.0 m.1)
   where
     there : (q o : Bool) → (not q || o) ≡ true → q ≡ true → o ≡ true
     there true o h e = h
@@ -308,7 +272,7 @@ staying s area old c = (λ (m : In c (filter (stays s area) old)). to (in_filter
     to m = (m.0, λ e. there (is_inside area c) (is_some (entry_at s c)) m.1 e)
 
     back : In c old → (is_inside area c ≡ true → IsCell s c) → In c (filter (stays s area) old)
-    back m f = filtered_in (stays s area) c old m (passes (is_inside area c) (is_some (entry_at s c)) f)
+    back m f = in_filter (stays s area) old c m (passes (is_inside area c) (is_some (entry_at s c)) f)
 
 -- cells that are looked at from a place on
 

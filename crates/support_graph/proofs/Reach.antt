@@ -9,12 +9,14 @@ use Rattle.cell_values.specs.Areas.{IsArea, is_inside}
 use Rattle.cell_values.specs.Order.{addresses, entry_at}
 use Rattle.cell_values.proofs.Order.{same_addr-true, same_addr-refl}
 use Rattle.demand_spec.specs.Laws.{In}
+use Rattle.demand_spec.proofs.Members.{found_member, member_found}
+use Rattle.demand_spec.proofs.Walks.{in_either, in_left, in_right}
 use Rattle.support_graph.specs.declared.block.Block.{Block}
 use Rattle.support_graph.specs.declared.search.Search.{Search}
 use Rattle.support_graph.specs.Support.{CellAreas, hold, IsCell, Reads}
 use Rattle.support_graph.specs.Pending.{among, Reached, start, step, IsClosedBut, IsPendingFrom}
 use Rattle.support_graph.specs.Steps.{IsMet, Visits, AreRead, ReadsArea, IsSearch, IsFrontier, unseen}
-use Rattle.support_graph.proofs.Visits.{in_append, in_left, in_right, in_has, has_in, stays_met}
+use Rattle.support_graph.proofs.Visits.{stays_met}
 use Rattle.support_graph.proofs.Readers.{inside}
 use Rattle.support_graph.proofs.Truths.{true_false}
 use Rattle.support_graph.proofs.Lists.{no_addr}
@@ -109,7 +111,7 @@ popped s from cell x y z old same pending rest v = record {
       where
         go : IsMet x c ⊎ In a x.todo.items → IsMet z c ⊎ In a z.todo.items
         go (inl n) = inl (met c n)
-        go (inr n) = waits a c k (in_append a y.todo.items (cell ∷ []) (subst (In a) rest n))
+        go (inr n) = waits a c k (in_either a y.todo.items (cell ∷ []) (subst (In a) rest n))
 
     known : (a : Addr) → In a y.todo.items ⊎ In a z.seen.keys → In a z.seen.keys
     known a (inl m) = still a (old.todo a (subst (In a) (sym rest) (in_left a y.todo.items (cell ∷ []) m)))
@@ -252,7 +254,7 @@ closed_after s old new from none closed all = record {
 pub spread_are : (s : CellAreas) (old from found new : List Addr) → ((c : Addr) → In c old → IsCell s c) → ((a c : Addr) → In a old → Reads s c a → In c old ⊎ In c from) → IsFrontier s old (among from) found → ((c : Addr) → In c new ↔ (In c old ⊎ In c found)) → (c : Addr) → In c new ↔ IsPendingFrom s old (among from) c
 spread_are s old from found new cells readers front all = pending_are s old (among from) found old new (record {
   cells = λ a m. inr (cells a m);
-  readers = λ a d m k. ⊎_elim (λ (n : In d old). inl n) (λ (n : In d from). inr (in_has d from n)) (readers a d m k);
+  readers = λ a d m k. ⊎_elim (λ (n : In d old). inl n) (λ (n : In d from). inr (member_found d from n)) (readers a d m k);
 }) front (λ c. (λ (m : In c old). (m, λ h. cells c m), λ (m : In c old × (among from c ≡ true → IsCell s c)). m.0)) all
 
 -- the cells of two lists that were merged, by other names of the lists
@@ -286,7 +288,7 @@ more_taken c (suc i) (x ∷ xs) h (inr e) = inr (more_taken c i xs (omega (arith
 
 pub one_more_passes : (i : ℕ) (xs : List Addr) → i < length xs → PassesOneMore (among (take i xs)) (among (take (i + 1) xs)) (get_or xs i no_addr)
 one_more_passes i xs h = (let next : suc i ≡ i + 1 = omega arith in subst (λ n. PassesOneMore (among (take i xs)) (among (take n xs)) (get_or xs i no_addr)) next (record {
-  same = λ c k. in_has c (take (suc i) xs) (more_taken c i xs h (inl (has_in c (take i xs) k)));
-  more = in_has (get_or xs i no_addr) (take (suc i) xs) (more_taken (get_or xs i no_addr) i xs h (inr refl));
-  only = λ c k. ⊎_elim (λ (m : In c (take i xs)). inl (in_has c (take i xs) m)) (λ (e : c ≡ get_or xs i no_addr). inr e) (take_more c i xs h (has_in c (take (suc i) xs) k));
+  same = λ c k. member_found c (take (suc i) xs) (more_taken c i xs h (inl (found_member c (take i xs) k)));
+  more = member_found (get_or xs i no_addr) (take (suc i) xs) (more_taken (get_or xs i no_addr) i xs h (inr refl));
+  only = λ c k. ⊎_elim (λ (m : In c (take i xs)). inl (member_found c (take i xs) m)) (λ (e : c ≡ get_or xs i no_addr). inr e) (take_more c i xs h (found_member c (take (suc i) xs) k));
 }))

@@ -5,38 +5,11 @@ use Rattle.cell_values.specs.declared.address.Addr.{Addr}
 use Rattle.cell_values.specs.Addresses.{same_addr}
 use Rattle.cell_values.proofs.Order.{cmp, same_cmp, same_addr-true, same_addr-refl}
 use Rattle.demand_spec.specs.Laws.{In}
+use Rattle.demand_spec.proofs.Members.{found_member, member_found}
+use Rattle.demand_spec.proofs.Walks.{in_either, in_left, in_right}
 use Rattle.support_graph.specs.declared.search.Search.{Search}
 use Rattle.support_graph.specs.Steps.{IsMet, Visits, unseen}
 use Rattle.support_graph.proofs.Truths.{any_same, or_right, true_false, not_true, not_false}
-
--- a list has a cell exactly where the test finds it
-
-pub in_has : (c : Addr) (xs : List Addr) → In c xs → list_any (same_addr c) xs ≡ true
-in_has c [] h = elim h [ ]
-in_has c (x ∷ xs) (inl e) = (λ i. same_addr c (sym e i) || list_any (same_addr c) xs) ∙ (λ i. same_addr-refl c i || list_any (same_addr c) xs)
-in_has c (x ∷ xs) (inr h) = or_right (same_addr c x) (list_any (same_addr c) xs) (in_has c xs h)
-
-pub has_in : (c : Addr) (xs : List Addr) → list_any (same_addr c) xs ≡ true → In c xs
-has_in c [] h = cc
-has_in c (x ∷ xs) h = go (same_addr c x) refl h (has_in c xs)
-  where
-    go : (q : Bool) → same_addr c x ≡ q → (q || list_any (same_addr c) xs) ≡ true → (list_any (same_addr c) xs ≡ true → In c xs) → In c (x ∷ xs)
-    go true e k f = inl (same_addr-true c x e)
-    go false e k f = inr (f k)
-
-pub in_append : (c : Addr) (xs ys : List Addr) → In c (xs ++ ys) → In c xs ⊎ In c ys
-in_append c [] ys h = inr h
-in_append c (x ∷ xs) ys (inl e) = inl (inl e)
-in_append c (x ∷ xs) ys (inr h) = ⊎_elim (λ (k : In c xs). inl (inr k)) (λ (k : In c ys). inr k) (in_append c xs ys h)
-
-pub in_left : (c : Addr) (xs ys : List Addr) → In c xs → In c (xs ++ ys)
-in_left c [] ys h = elim h [ ]
-in_left c (x ∷ xs) ys (inl e) = inl e
-in_left c (x ∷ xs) ys (inr h) = inr (in_left c xs ys h)
-
-pub in_right : (c : Addr) (xs ys : List Addr) → In c ys → In c (xs ++ ys)
-in_right c [] ys h = h
-in_right c (x ∷ xs) ys h = inr (in_right c xs ys h)
 
 -- all of which `P` holds were met
 pub visits_seen : (P : Addr → Type 0) (s : Search) → ((c : Addr) → P c → IsMet s c) → Visits P s s
@@ -130,20 +103,20 @@ visit_absent cell s t pending absent seen todo = record {
   only = to;
   queued = λ c k. queued c (to c k);
   kept = λ c k. subst (In c) (sym todo) (in_left c s.todo.items (cell ∷ []) k);
-  known = λ c k. known c (in_append c s.todo.items (cell ∷ []) (subst (In c) todo k));
+  known = λ c k. known c (in_either c s.todo.items (cell ∷ []) (subst (In c) todo k));
   ends = λ cells k. ends cells (k cell refl);
 }
   where
     to : (c : Addr) → In c t.seen.keys → In c s.seen.keys ⊎ (c ≡ cell)
-    to c k = go (same_addr cell c) refl (sym (seen c) ∙ in_has c t.seen.keys k)
+    to c k = go (same_addr cell c) refl (sym (seen c) ∙ member_found c t.seen.keys k)
       where
         go : (b : Bool) → same_addr cell c ≡ b → (b || list_any (same_addr c) s.seen.keys) ≡ true → In c s.seen.keys ⊎ (c ≡ cell)
         go true e h = inr (sym (same_addr-true cell c e))
-        go false e h = inl (has_in c s.seen.keys h)
+        go false e h = inl (found_member c s.seen.keys h)
 
     from : (c : Addr) → In c s.seen.keys ⊎ (c ≡ cell) → In c t.seen.keys
-    from c (inl k) = has_in c t.seen.keys (seen c ∙ or_right (same_addr cell c) (list_any (same_addr c) s.seen.keys) (in_has c s.seen.keys k))
-    from c (inr e) = has_in c t.seen.keys (seen c ∙ (λ i. same_addr cell (e i) || list_any (same_addr c) s.seen.keys) ∙ (λ i. same_addr-refl cell i || list_any (same_addr c) s.seen.keys))
+    from c (inl k) = found_member c t.seen.keys (seen c ∙ or_right (same_addr cell c) (list_any (same_addr c) s.seen.keys) (member_found c s.seen.keys k))
+    from c (inr e) = found_member c t.seen.keys (seen c ∙ (λ i. same_addr cell (e i) || list_any (same_addr c) s.seen.keys) ∙ (λ i. same_addr-refl cell i || list_any (same_addr c) s.seen.keys))
 
     queued : (c : Addr) → In c s.seen.keys ⊎ (c ≡ cell) → In c s.seen.keys ⊎ In c t.todo.items
     queued c (inl k) = inl k
@@ -185,4 +158,4 @@ visit_again cell s t pending there same todo = record {
 }
   where
     found : (c : Addr) → c ≡ cell → In c t.seen.keys
-    found c e = subst (In c) (sym same) (has_in c s.seen.keys ((λ i. list_any (same_addr (e i)) s.seen.keys) ∙ sym (any_same cmp same_addr same_cmp cell s.seen.keys) ∙ not_false (list_any (λ x. is_eq (cmp cell x)) s.seen.keys) (sym there)))
+    found c e = subst (In c) (sym same) (found_member c s.seen.keys ((λ i. list_any (same_addr (e i)) s.seen.keys) ∙ sym (any_same cmp same_addr same_cmp cell s.seen.keys) ∙ not_false (list_any (λ x. is_eq (cmp cell x)) s.seen.keys) (sym there)))

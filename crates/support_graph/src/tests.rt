@@ -13,7 +13,9 @@ use cell_values::{Addr, Area};
 use std::alloc::AllocError;
 use std::test::Fail;
 
-fn cell(row: u32, col: u16) -> Addr {
+fn cell(row: u32, col: u16) -> Addr
+    ensures { result ≡ record { sheet = 0; row = row; col = col } }
+{
     Addr { sheet: 0, row, col }
 }
 

@@ -2,91 +2,31 @@
 use Rattle.std.proofs.Common.{◌≡◌, ℕ, ◌+◌, ◌≤◌, ◌<◌, cond, not, ◌&&◌, ◌||◌, Bool, true, false, List, [], ◌∷◌, Option, Some, None, Result, Ok, Err, OnOk, OnErr, option_map, is_some, IsSome, length, refl, sym, ap, subst, ◌∙◌, arith}
 use Rattle.std.specs.List.{list_any, AllByRecursion, IsDistinct}
 use Rattle.std.proofs.lemmas.Map.Keys.{IsDistinct-head, IsDistinct-tail, IsDistinct-cons}
+use Rattle.cell_values.specs.declared.TheConstants.{MAX_BOOK_CELLS}
 use Rattle.cell_values.specs.declared.address.Addr.{Addr}
 use Rattle.cell_values.specs.declared.address.Area.{Area}
 use Rattle.cell_values.specs.Addresses.{same_addr, IsOnSheet}
 use Rattle.cell_values.specs.Areas.{walk, is_inside, IsArea}
 use Rattle.cell_values.specs.Texts.{Texts}
-use Rattle.formula_trees.specs.Expr.{Expr, Exprs, Ref, Range, RefError, Unary, Binary, Call, End, More}
-use Rattle.formula_trees.specs.References.{resolve, area_of}
-use Rattle.formula_trees.specs.SheetNumbers.{SheetsBelow, AllSheetsBelow}
-use Rattle.formula_trees.specs.Shifted.{kept_cell, kept_area, shifted, all_shifted}
-use Rattle.formula_trees.specs.TextNumbers.{TextsBelow, AllTextsBelow}
-use Rattle.cell_values.specs.Areas.{height, width}
-use Rattle.std.specs.Prelude.{nat_le, ◌*◌}
-use Rattle.demand_spec.specs.Book.{Content, cell_in}
+use Rattle.cell_values.specs.Order.{addresses, entry_at}
+use Rattle.formula_trees.specs.Shifted.{shifted}
+use Rattle.formula_trees.proofs.Shifts.{shifted_texts, shifted_sheets}
+use Rattle.demand_spec.specs.Book.{Content}
 use Rattle.demand_spec.specs.Listed.{IsContentOf}
+use Rattle.demand_spec.proofs.Members.{walk_holds}
 use Rattle.shared_expressions.specs.Trees.{Trees, KeepsTrees}
 use Rattle.workbook_core.specs.declared.Content.{Content as Held}
 use Rattle.workbook_core.specs.declared.edits.EditFault.{EditFault}
-use Rattle.workbook_core.specs.Books.{IsCell, IsKept, MayHold, NamesSheetsBelow}
+use Rattle.workbook_core.specs.Books.{IsCell, IsKept, MayHold, NamesSheetsBelow, NumberFits}
 use Rattle.workbook_core.specs.Copies.{among, empty_among, SetsAll, IsCopy, CopiesTo, HasNoRoom}
 use Rattle.demand_spec.specs.Edits.{Copy, copied, IsApplied, IsTooLarge}
 use Rattle.workbook_core.specs.Edits.{IsCopyFault, IsTooMany}
-use Rattle.workbook_core.specs.Held.{held_in, content_in, cells_in}
+use Rattle.workbook_core.specs.Held.{content_in, cells_in}
 use Rattle.workbook_core.proofs.Copied.{among_empty, empty_is_none, empty_is_among}
 use Rattle.workbook_core.proofs.Counting.{more_cells, none_among}
 use Rattle.workbook_core.proofs.Growth.{kept_cells, kept_from, kept_grows, held_cell, same_texts}
-use Rattle.workbook_core.proofs.Lookups.{held_cells, length-cells_in, order_same}
-use Rattle.workbook_core.proofs.Walked.{IsInArea, walk_has, walk_distinct, inside_tells}
-
--- a shifted formula names no other texts and sheets
-
-shifted_cell : (meant : ℕ → Type 0) (r : Expr) (o : Option Addr) → TextsBelow meant r → TextsBelow meant (kept_cell r o)
-shifted_cell meant r None h = tt
-shifted_cell meant r (Some a) h = h
-
-shifted_area : (meant : ℕ → Type 0) (r : Expr) (o : Option Area) → TextsBelow meant r → TextsBelow meant (kept_area r o)
-shifted_area meant r None h = tt
-shifted_area meant r (Some a) h = go (nat_le (height a * width a) 65536)
-  where
-    go : (t : Bool) → TextsBelow meant (cond t r RefError)
-    go true = h
-    go false = tt
-
-mutual
-  shifted_texts : (meant : ℕ → Type 0) (to : Addr) (e : Expr) → TextsBelow meant e → TextsBelow meant (shifted to e)
-  shifted_texts meant to (Expr.Number k) h = tt
-  shifted_texts meant to (Expr.Text t) h = h
-  shifted_texts meant to (Expr.Truth b) h = tt
-  shifted_texts meant to (Ref r) h = shifted_cell meant (Ref r) (resolve to r) h
-  shifted_texts meant to (Range r s) h = shifted_area meant (Range r s) (area_of to r s) h
-  shifted_texts meant to RefError h = tt
-  shifted_texts meant to (Unary s a) h = shifted_texts meant to a h
-  shifted_texts meant to (Binary o a b) h = (shifted_texts meant to a h.0, shifted_texts meant to b h.1)
-  shifted_texts meant to (Call f args) h = shifted_all_texts meant to args h
-
-  shifted_all_texts : (meant : ℕ → Type 0) (to : Addr) (args : Exprs) → AllTextsBelow meant args → AllTextsBelow meant (all_shifted to args)
-  shifted_all_texts meant to End h = tt
-  shifted_all_texts meant to (More a rest) h = (shifted_texts meant to a h.0, shifted_all_texts meant to rest h.1)
-
-sheets_cell : (n : ℕ) (r : Expr) (o : Option Addr) → SheetsBelow n r → SheetsBelow n (kept_cell r o)
-sheets_cell n r None h = tt
-sheets_cell n r (Some a) h = h
-
-sheets_area : (n : ℕ) (r : Expr) (o : Option Area) → SheetsBelow n r → SheetsBelow n (kept_area r o)
-sheets_area n r None h = tt
-sheets_area n r (Some a) h = go (nat_le (height a * width a) 65536)
-  where
-    go : (t : Bool) → SheetsBelow n (cond t r RefError)
-    go true = h
-    go false = tt
-
-mutual
-  shifted_sheets : (n : ℕ) (to : Addr) (e : Expr) → SheetsBelow n e → SheetsBelow n (shifted to e)
-  shifted_sheets n to (Expr.Number k) h = tt
-  shifted_sheets n to (Expr.Text t) h = tt
-  shifted_sheets n to (Expr.Truth b) h = tt
-  shifted_sheets n to (Ref r) h = sheets_cell n (Ref r) (resolve to r) h
-  shifted_sheets n to (Range r s) h = sheets_area n (Range r s) (area_of to r s) h
-  shifted_sheets n to RefError h = tt
-  shifted_sheets n to (Unary s a) h = shifted_sheets n to a h
-  shifted_sheets n to (Binary o a b) h = (shifted_sheets n to a h.0, shifted_sheets n to b h.1)
-  shifted_sheets n to (Call f args) h = shifted_all_sheets n to args h
-
-  shifted_all_sheets : (n : ℕ) (to : Addr) (args : Exprs) → AllSheetsBelow n args → AllSheetsBelow n (all_shifted to args)
-  shifted_all_sheets n to End h = tt
-  shifted_all_sheets n to (More a rest) h = (shifted_sheets n to a h.0, shifted_all_sheets n to rest h.1)
+use Rattle.workbook_core.proofs.Lookups.{held_cells, length-cells_in, in_book}
+use Rattle.workbook_core.proofs.Walked.{IsInArea, walk_distinct, inside_tells}
 
 -- the copy of a content
 abbrev copy_of : Addr → Content → Content
@@ -111,6 +51,12 @@ copy_sheets n to (Content.Text t) h = h
 copy_sheets n to (Content.Truth b) h = h
 copy_sheets n to (Content.Formula t) h = shifted_sheets n to t h
 
+copy_fits : (to : Addr) (c : Content) → NumberFits c → NumberFits (copy_of to c)
+copy_fits to (Content.Number n) h = h
+copy_fits to (Content.Text t) h = h
+copy_fits to (Content.Truth b) h = h
+copy_fits to (Content.Formula t) h = h
+
 -- a copy may stand in a cell of a sheet
 copy_may : (q : Trees) (ts : Texts) (n : ℕ) (c : Content) (from to : Addr) (h : Held) → IsCell ts n from c → IsOnSheet to → to.sheet < n → IsCopy q c to h → MayHold ts n q to (Some h)
 copy_may q ts n c from to h cell on sheet is =
@@ -120,6 +66,7 @@ copy_may q ts n c from to h cell on sheet is =
       record {
         on_sheet = on;
         sheet = sheet;
+        fits = subst NumberFits same (copy_fits to c cell.fits);
         sound = is.sound;
         texts = subst (IsContentOf ts) same (copy_texts ts to c cell.texts);
         sheets = subst (NamesSheetsBelow n) same (copy_sheets n to c cell.sheets);
@@ -141,107 +88,107 @@ apart_among x (y ∷ ys) h = ap (λ t. t || among ys x) h.0 ∙ apart_among x ys
 -- those of distinct addresses that are empty are distinct
 empty_distinct : (es : List (Addr × Held)) (xs : List Addr) → IsDistinct same_addr xs → IsDistinct same_addr (empty_among es xs)
 empty_distinct es [] d = d
-empty_distinct es (x ∷ xs) d = go (not (is_some (held_in es x))) (empty_distinct es xs (IsDistinct-tail same_addr x xs d))
+empty_distinct es (x ∷ xs) d = go (not (is_some (entry_at es x))) (empty_distinct es xs (IsDistinct-tail same_addr x xs d))
   where
     not_later : among (empty_among es xs) x ≡ false
-    not_later = among_empty es xs x ∙ ap (λ t. t && not (is_some (held_in es x))) (apart_among x xs (IsDistinct-head same_addr x xs d))
+    not_later = among_empty es xs x ∙ ap (λ t. t && not (is_some (entry_at es x))) (apart_among x xs (IsDistinct-head same_addr x xs d))
 
     go : (t : Bool) → IsDistinct same_addr (empty_among es xs) → IsDistinct same_addr (cond t (x ∷ empty_among es xs) (empty_among es xs))
     go true h = IsDistinct-cons same_addr x (empty_among es xs) (none_among x (empty_among es xs) not_later) h
     go false h = h
 
 module _ (names : List (List ℕ)) (ts : Texts) (p q : Trees) (es : List (Addr × Held)) (from : Addr) (to : Area) where
-  pub copies_kept : (fs : List (Addr × Held)) (x : Held) → IsKept es ts names p → KeepsTrees p q → IsArea to → to.sheet < length names → held_in es from ≡ Some x → CopiesTo q (content_in p x) (walk to) es fs → length fs ≤ 200000 → IsKept fs ts names q
+  pub copies_kept : (fs : List (Addr × Held)) (x : Held) → IsKept es ts names p → KeepsTrees p q → IsArea to → to.sheet < length names → entry_at es from ≡ Some x → CopiesTo q (content_in p x) (walk to) es fs → length fs ≤ MAX_BOOK_CELLS → IsKept fs ts names q
   copies_kept fs x k t area sheet is c few = kept_from fs ts names q c.order few (λ a h e. go a h e (among (walk to) a) refl)
     where
-      go : (a : Addr) (h : Held) → held_in fs a ≡ Some h → (u : Bool) → among (walk to) a ≡ u → MayHold ts (length names) q a (Some h)
+      go : (a : Addr) (h : Held) → entry_at fs a ≡ Some h → (u : Bool) → among (walk to) a ≡ u → MayHold ts (length names) q a (Some h)
       go a h e true f =
           let found = c.copies a f in
           let twice : Some found.0 ≡ Some h = sym found.1 ∙ e in
           let same : found.0 ≡ h = cc in
-          let inside : IsInArea to a = inside_tells to a (sym (walk_has to a area) ∙ f) in
+          let inside : IsInArea to a = inside_tells to a (sym (walk_holds to a) ∙ f) in
           let on : a.sheet < length names = omega (arith, inside.sheet, sheet) in
           copy_may q ts (length names) (content_in p x) from a h (held_cell es ts names p k from x is).1 (area_on_sheet to a area inside) on (subst (IsCopy q (content_in p x) a) same found.2)
       go a h e false f = held_cell es ts names q (kept_grows es ts ts names p q (same_texts ts) t k) a h (sym (c.others a f) ∙ e)
 
-  pub copies_kept_on : {T : Type 0} (r : Result T EditFault) (fs : List (Addr × Held)) (x : Held) → IsKept es ts names p → KeepsTrees p q → IsArea to → to.sheet < length names → held_in es from ≡ Some x → OnOk r (CopiesTo q (content_in p x) (walk to) es fs) → length fs ≤ 200000 → OnErr r (fs ≡ es) → IsKept fs ts names q
+  pub copies_kept_on : {T : Type 0} (r : Result T EditFault) (fs : List (Addr × Held)) (x : Held) → IsKept es ts names p → KeepsTrees p q → IsArea to → to.sheet < length names → entry_at es from ≡ Some x → OnOk r (CopiesTo q (content_in p x) (walk to) es fs) → length fs ≤ MAX_BOOK_CELLS → OnErr r (fs ≡ es) → IsKept fs ts names q
   copies_kept_on (Ok y) fs x k t area sheet is c few e = copies_kept fs x k t area sheet is c few
   copies_kept_on (Err y) fs x k t area sheet is c few e = subst (λ gs. IsKept gs ts names q) (sym e) (kept_grows es ts ts names p q (same_texts ts) t k)
 
-  pub copies_applied : (fs : List (Addr × Held)) (x : Held) → IsKept es ts names p → KeepsTrees p q → IsArea to → held_in es from ≡ Some x → CopiesTo q (content_in p x) (walk to) es fs → IsApplied (Copy from to) (cells_in p es) (cells_in q fs)
+  pub copies_applied : (fs : List (Addr × Held)) (x : Held) → IsKept es ts names p → KeepsTrees p q → IsArea to → entry_at es from ≡ Some x → CopiesTo q (content_in p x) (walk to) es fs → IsApplied (Copy from to) (cells_in p es) (cells_in q fs)
   copies_applied fs x k t area is c = record {
-    order = order_same [] q fs c.order;
+    order = in_book q fs c.order;
     lookups = λ a. held_cells q fs a ∙ go a (among (walk to) a) refl;
   }
     where
-      source : cell_in (cells_in p es) from ≡ Some (content_in p x)
+      source : entry_at (cells_in p es) from ≡ Some (content_in p x)
       source = held_cells p es from ∙ ap (option_map (content_in p)) is
 
-      go : (a : Addr) (u : Bool) → among (walk to) a ≡ u → option_map (content_in q) (held_in fs a) ≡ cond (is_inside to a) (copied a (cell_in (cells_in p es) from)) (cell_in (cells_in p es) a)
+      go : (a : Addr) (u : Bool) → among (walk to) a ≡ u → option_map (content_in q) (entry_at fs a) ≡ cond (is_inside to a) (copied a (entry_at (cells_in p es) from)) (entry_at (cells_in p es) a)
       go a true f =
           let found = c.copies a f in
           ap (option_map (content_in q)) found.1 ∙ sym found.2.same ∙ ap (copied a) (sym source)
-          ∙ ap (λ b. cond b (copied a (cell_in (cells_in p es) from)) (cell_in (cells_in p es) a)) (sym f ∙ walk_has to a area)
+          ∙ ap (λ b. cond b (copied a (entry_at (cells_in p es) from)) (entry_at (cells_in p es) a)) (sym f ∙ walk_holds to a)
       go a false f =
-          ap (option_map (content_in q)) (c.others a f) ∙ sym (held_cells q es a) ∙ ap (λ cs. cell_in cs a) (kept_cells es ts names p q t k)
-          ∙ ap (λ b. cond b (copied a (cell_in (cells_in p es) from)) (cell_in (cells_in p es) a)) (sym f ∙ walk_has to a area)
+          ap (option_map (content_in q)) (c.others a f) ∙ sym (held_cells q es a) ∙ ap (λ cs. entry_at cs a) (kept_cells es ts names p q t k)
+          ∙ ap (λ b. cond b (copied a (entry_at (cells_in p es) from)) (entry_at (cells_in p es) a)) (sym f ∙ walk_holds to a)
 
-  pub cleared_applied : (fs : List (Addr × Held)) → IsArea to → held_in es from ≡ None → SetsAll (walk to) None es fs → IsApplied (Copy from to) (cells_in p es) (cells_in p fs)
+  pub cleared_applied : (fs : List (Addr × Held)) → IsArea to → entry_at es from ≡ None → SetsAll (walk to) None es fs → IsApplied (Copy from to) (cells_in p es) (cells_in p fs)
   cleared_applied fs area is s = record {
-    order = order_same [] p fs s.order;
+    order = in_book p fs s.order;
     lookups = λ a. held_cells p fs a ∙ go a (among (walk to) a) refl;
   }
     where
-      source : cell_in (cells_in p es) from ≡ None
+      source : entry_at (cells_in p es) from ≡ None
       source = held_cells p es from ∙ ap (option_map (content_in p)) is
 
-      go : (a : Addr) (u : Bool) → among (walk to) a ≡ u → option_map (content_in p) (held_in fs a) ≡ cond (is_inside to a) (copied a (cell_in (cells_in p es) from)) (cell_in (cells_in p es) a)
+      go : (a : Addr) (u : Bool) → among (walk to) a ≡ u → option_map (content_in p) (entry_at fs a) ≡ cond (is_inside to a) (copied a (entry_at (cells_in p es) from)) (entry_at (cells_in p es) a)
       go a true f =
-          ap (option_map (content_in p)) (s.lookups a ∙ ap (λ b. cond b None (held_in es a)) f) ∙ ap (copied a) (sym source)
-          ∙ ap (λ b. cond b (copied a (cell_in (cells_in p es) from)) (cell_in (cells_in p es) a)) (sym f ∙ walk_has to a area)
+          ap (option_map (content_in p)) (s.lookups a ∙ ap (λ b. cond b None (entry_at es a)) f) ∙ ap (copied a) (sym source)
+          ∙ ap (λ b. cond b (copied a (entry_at (cells_in p es) from)) (entry_at (cells_in p es) a)) (sym f ∙ walk_holds to a)
       go a false f =
-          ap (option_map (content_in p)) (s.lookups a ∙ ap (λ b. cond b None (held_in es a)) f) ∙ sym (held_cells p es a)
-          ∙ ap (λ b. cond b (copied a (cell_in (cells_in p es) from)) (cell_in (cells_in p es) a)) (sym f ∙ walk_has to a area)
+          ap (option_map (content_in p)) (s.lookups a ∙ ap (λ b. cond b None (entry_at es a)) f) ∙ sym (held_cells p es a)
+          ∙ ap (λ b. cond b (copied a (entry_at (cells_in p es) from)) (entry_at (cells_in p es) a)) (sym f ∙ walk_holds to a)
 
-  pub cleared_kept : (fs : List (Addr × Held)) → IsKept es ts names p → SetsAll (walk to) None es fs → length fs ≤ 200000 → IsKept fs ts names p
+  pub cleared_kept : (fs : List (Addr × Held)) → IsKept es ts names p → SetsAll (walk to) None es fs → length fs ≤ MAX_BOOK_CELLS → IsKept fs ts names p
   cleared_kept fs k s few = kept_from fs ts names p s.order few (λ a h e. go a h (among (walk to) a) (sym (s.lookups a) ∙ e))
     where
-      go : (a : Addr) (h : Held) (u : Bool) → cond u None (held_in es a) ≡ Some h → MayHold ts (length names) p a (Some h)
+      go : (a : Addr) (h : Held) (u : Bool) → cond u None (entry_at es a) ≡ Some h → MayHold ts (length names) p a (Some h)
       go a h true e = absurd (cc)
       go a h false e = held_cell es ts names p k a h e
 
   -- too many cells
-  copies_counted : (x : Held) → IsKept es ts names p → IsArea to → held_in es from ≡ Some x → 200000 < length es + length (empty_among es (walk to)) → IsTooLarge (Copy from to) (cells_in p es)
+  copies_counted : (x : Held) → IsKept es ts names p → IsArea to → entry_at es from ≡ Some x → MAX_BOOK_CELLS < length es + length (empty_among es (walk to)) → IsTooLarge (Copy from to) (cells_in p es)
   copies_counted x k area is h new a =
       let counted : length (empty_among es (walk to)) + length (cells_in p es) ≤ length new = more_cells (cells_in p es) new (empty_among es (walk to)) k.workbook.order (empty_distinct es (walk to) (walk_distinct to)) none added kept in
       omega (arith, counted, h, length-cells_in p es)
     where
-      source : cell_in (cells_in p es) from ≡ Some (content_in p x)
+      source : entry_at (cells_in p es) from ≡ Some (content_in p x)
       source = held_cells p es from ∙ ap (option_map (content_in p)) is
 
-      none : (b : Addr) → list_any (same_addr b) (empty_among es (walk to)) ≡ true → is_some (cell_in (cells_in p es) b) ≡ false
+      none : (b : Addr) → list_any (same_addr b) (empty_among es (walk to)) ≡ true → is_some (entry_at (cells_in p es) b) ≡ false
       none b f = ap is_some (held_cells p es b) ∙ ap (λ o. is_some (option_map (content_in p) o)) (empty_is_none es (walk to) b f)
 
-      some_copied : (b : Addr) → IsSome (copied b (cell_in (cells_in p es) from))
+      some_copied : (b : Addr) → IsSome (copied b (entry_at (cells_in p es) from))
       some_copied b = ap (λ o. is_some (copied b o)) source ∙ ap is_some (copied_some b (content_in p x))
 
-      added : (b : Addr) → list_any (same_addr b) (empty_among es (walk to)) ≡ true → IsSome (cell_in new b)
-      added b f = ap is_some (a.lookups b ∙ ap (λ t. cond t (copied b (cell_in (cells_in p es) from)) (cell_in (cells_in p es) b)) (sym (walk_has to b area) ∙ empty_is_among es (walk to) b f)) ∙ some_copied b
+      added : (b : Addr) → list_any (same_addr b) (empty_among es (walk to)) ≡ true → IsSome (entry_at new b)
+      added b f = ap is_some (a.lookups b ∙ ap (λ t. cond t (copied b (entry_at (cells_in p es) from)) (entry_at (cells_in p es) b)) (sym (walk_holds to b) ∙ empty_is_among es (walk to) b f)) ∙ some_copied b
 
-      kept : (b : Addr) → IsSome (cell_in (cells_in p es) b) → IsSome (cell_in new b)
+      kept : (b : Addr) → IsSome (entry_at (cells_in p es) b) → IsSome (entry_at new b)
       kept b f = ap is_some (a.lookups b) ∙ go (is_inside to b)
         where
-          go : (t : Bool) → is_some (cond t (copied b (cell_in (cells_in p es) from)) (cell_in (cells_in p es) b)) ≡ true
+          go : (t : Bool) → is_some (cond t (copied b (entry_at (cells_in p es) from)) (entry_at (cells_in p es) b)) ≡ true
           go true = some_copied b
           go false = f
 
-  pub copies_fault : (x : Held) (e : EditFault) → IsKept es ts names p → IsArea to → held_in es from ≡ Some x → HasNoRoom es (walk to) e → IsCopyFault (cells_in p es) from to e
+  pub copies_fault : (x : Held) (e : EditFault) → IsKept es ts names p → IsArea to → entry_at es from ≡ Some x → HasNoRoom es (walk to) e → IsCopyFault (cells_in p es) from to e
   copies_fault x (EditFault.BadFormula place n) k area is h = h
   copies_fault x EditFault.TooManyCells k area is h = λ new a. copies_counted x k area is h new a
   copies_fault x EditFault.OutOfMemory k area is h = tt
 
-  pub copies_large : (fs : List (Addr × Held)) → IsTooLarge (Copy from to) (cells_in p es) → IsApplied (Copy from to) (cells_in p es) (cells_in q fs) → length fs ≤ 200000 → ⊥
-  copies_large fs large done few = (let more : 200000 < length (cells_in q fs) = large (cells_in q fs) done in absurd (omega (arith, more, length-cells_in q fs, few)))
+  pub copies_large : (fs : List (Addr × Held)) → IsTooLarge (Copy from to) (cells_in p es) → IsApplied (Copy from to) (cells_in p es) (cells_in q fs) → length fs ≤ MAX_BOOK_CELLS → ⊥
+  copies_large fs large done few = (let more : MAX_BOOK_CELLS < length (cells_in q fs) = large (cells_in q fs) done in absurd (omega (arith, more, length-cells_in q fs, few)))
 
 pub too_many_from_copies : (es : List (Addr × Held)) (xs : List Addr) (e : EditFault) → HasNoRoom es xs e → IsTooMany e
 too_many_from_copies es xs (EditFault.BadFormula place n) h = h

@@ -3,75 +3,23 @@ use Rattle.std.proofs.Common.{◌≡◌, ℕ, inl, inr, zero, suc, ◌+◌, ◌�
 use Rattle.std.specs.Map.{keys_of}
 use Rattle.std.proofs.lemmas.List.{take_more}
 use Rattle.cell_values.specs.declared.address.Addr.{Addr}
-use Rattle.cell_values.specs.Addresses.{same_addr, IsBefore}
+use Rattle.cell_values.specs.Addresses.{same_addr}
+use Rattle.cell_values.specs.Order.{InOrder, addresses, entry_at}
+use Rattle.cell_values.proofs.Order.{same_addr-refl, same_addr-sym, same_addr-true}
 use Rattle.demand_spec.specs.Book.{Content}
-use Rattle.demand_spec.specs.Listed.{InOrder, IsSoundAt}
+use Rattle.demand_spec.specs.Listed.{IsSoundAt}
 use Rattle.formula_trees.specs.Expr.{Expr}
 use Rattle.formula_trees.specs.Shifted.{shifted}
 use Rattle.formula_trees.specs.Sound.{IsSound}
+use Rattle.formula_trees.proofs.Shifts.{sound_shifted}
+use Rattle.demand_spec.proofs.OneList.{one_map}
 use Rattle.shared_expressions.specs.declared.nodes.ExprId.{ExprId}
-use Rattle.shared_expressions.specs.Trees.{Trees, KeepsTrees, StandsFor}
+use Rattle.shared_expressions.specs.Trees.{Trees, tree_at, KeepsTrees, StandsFor}
 use Rattle.workbook_core.specs.declared.Content.{Content as Held}
 use Rattle.workbook_core.specs.Copies.{among, empty_among, written, SetsAll, Writes, IsCopy, AreCopies, CopiesTo, IsPlain}
-use Rattle.workbook_core.specs.Held.{held_in, content_in, cells_in, SetsHeld}
-use Rattle.workbook_core.proofs.Counting.{any_append, same_addr-sym}
-use Rattle.workbook_core.proofs.Growth.{before_found, never_before, held_stays, content_same}
-use Rattle.workbook_core.proofs.Lookups.{same_addr-true, same_addr-refl}
-
--- two lists in order with the same look-ups are one
-
-not_before_both : (a b : Addr) → IsBefore a b → IsBefore b a → ⊥
-not_before_both a b (inl h) (inl k) = omega arith
-not_before_both a b (inl h) (inr (e, k)) = omega arith
-not_before_both a b (inr (e, h)) (inl k) = omega arith
-not_before_both a b (inr (e, inl h)) (inr (f, inl k)) = omega arith
-not_before_both a b (inr (e, inl h)) (inr (f, inr (g, k))) = omega arith
-not_before_both a b (inr (e, inr (g, h))) (inr (f, inl k)) = omega arith
-not_before_both a b (inr (e, inr (g, h))) (inr (f, inr (i, k))) = omega arith
-
-here : (e : Addr × Held) (es : List (Addr × Held)) → held_in (e ∷ es) e.0 ≡ Some e.1
-here e es = ap (λ t. cond t (Some e.1) (held_in es e.0)) (same_addr-refl e.0)
-
--- the first of two lists
-same_first : (e f : Addr × Held) (es fs : List (Addr × Held)) → InOrder (cells_in [] (e ∷ es)) → InOrder (cells_in [] (f ∷ fs)) → ((a : Addr) → held_in (e ∷ es) a ≡ held_in (f ∷ fs) a) → (e.0 ≡ f.0) × (e.1 ≡ f.1)
-same_first e f es fs o p h = go (same_addr e.0 f.0) refl (sym (h e.0) ∙ here e es) (h f.0 ∙ here f fs)
-  where
-    go : (t : Bool) → same_addr e.0 f.0 ≡ t → cond (same_addr e.0 f.0) (Some f.1) (held_in fs e.0) ≡ Some e.1 → cond (same_addr f.0 e.0) (Some e.1) (held_in es f.0) ≡ Some f.1 → (e.0 ≡ f.0) × (e.1 ≡ f.1)
-    go true is k l =
-        let found : Some f.1 ≡ Some e.1 = ap (λ t. cond t (Some f.1) (held_in fs e.0)) (sym is) ∙ k in
-        let same : e.1 ≡ f.1 = cc in
-        (same_addr-true e.0 f.0 is, same)
-    go false is k l =
-        let first : held_in fs e.0 ≡ Some e.1 = ap (λ t. cond t (Some f.1) (held_in fs e.0)) (sym is) ∙ k in
-        let other : same_addr f.0 e.0 ≡ false = same_addr-sym f.0 e.0 ∙ is in
-        let second : held_in es f.0 ≡ Some f.1 = ap (λ t. cond t (Some e.1) (held_in es f.0)) (sym other) ∙ l in
-        absurd (not_before_both e.0 f.0 (before_found e.0 es f.0 f.1 o.0 second) (before_found f.0 fs e.0 e.1 p.0 first))
-
--- the address of the first is none of the others'
-none_behind : (e : Addr × Held) (es : List (Addr × Held)) (a : Addr) → InOrder (cells_in [] (e ∷ es)) → same_addr a e.0 ≡ true → held_in es a ≡ None
-none_behind e es a o is = go (held_in es a) refl
-  where
-    go : (x : Option Held) → held_in es a ≡ x → x ≡ None
-    go None k = refl
-    go (Some h) k = absurd (never_before e.0 (subst (IsBefore e.0) (same_addr-true a e.0 is) (before_found e.0 es a h o.0 k)))
-
-same_rest : (e f : Addr × Held) (es fs : List (Addr × Held)) → InOrder (cells_in [] (e ∷ es)) → InOrder (cells_in [] (f ∷ fs)) → ((a : Addr) → held_in (e ∷ es) a ≡ held_in (f ∷ fs) a) → e.0 ≡ f.0 → (a : Addr) → held_in es a ≡ held_in fs a
-same_rest e f es fs o p h is a = go (same_addr a e.0) refl
-  where
-    go : (t : Bool) → same_addr a e.0 ≡ t → held_in es a ≡ held_in fs a
-    go true k = none_behind e es a o k ∙ sym (none_behind f fs a p (ap (same_addr a) (sym is) ∙ k))
-    go false k =
-        ap (λ t. cond t (Some e.1) (held_in es a)) (sym k) ∙ h a
-        ∙ ap (λ t. cond t (Some f.1) (held_in fs a)) (ap (same_addr a) (sym is) ∙ k)
-
-pub same_cells : (es fs : List (Addr × Held)) → InOrder (cells_in [] es) → InOrder (cells_in [] fs) → ((a : Addr) → held_in es a ≡ held_in fs a) → es ≡ fs
-same_cells [] [] o p h = refl
-same_cells [] (f ∷ fs) o p h = (let none : None ≡ Some f.1 = h f.0 ∙ here f fs in absurd (cc))
-same_cells (e ∷ es) [] o p h = (let none : None ≡ Some e.1 = sym (h e.0) ∙ here e es in absurd (cc))
-same_cells (e ∷ es) (f ∷ fs) o p h =
-    let first = same_first e f es fs o p h in
-    let rest : es ≡ fs = same_cells es fs o.1 p.1 (same_rest e f es fs o p h first.0) in
-    λ i. (first.0 i, first.1 i) ∷ rest i
+use Rattle.workbook_core.specs.Held.{content_in, cells_in, SetsHeld}
+use Rattle.workbook_core.proofs.Counting.{any_append}
+use Rattle.workbook_core.proofs.Growth.{held_stays, content_same}
 
 -- the addresses so far, one more
 
@@ -88,30 +36,30 @@ sets_more xs i d held old mid new l s t = record {
   lookups = λ a. t.lookups a ∙ both a (same_addr (get_or xs i d) a) refl (among (take i xs) a) refl;
 }
   where
-    both : (a : Addr) (t : Bool) → same_addr (get_or xs i d) a ≡ t → (u : Bool) → among (take i xs) a ≡ u → cond (same_addr (get_or xs i d) a) held (held_in mid a) ≡ cond (among (take (i + 1) xs) a) held (held_in old a)
+    both : (a : Addr) (t : Bool) → same_addr (get_or xs i d) a ≡ t → (u : Bool) → among (take i xs) a ≡ u → cond (same_addr (get_or xs i d) a) held (entry_at mid a) ≡ cond (among (take (i + 1) xs) a) held (entry_at old a)
     both a t et u eu =
         let now : among (take (i + 1) xs) a ≡ (u || t) = among_more xs i d l a ∙ (λ k. eu k || ((same_addr-sym a (get_or xs i d) ∙ et) k)) in
-        ap (λ b. cond b held (held_in mid a)) et ∙ ap (cond t held) (s.lookups a ∙ ap (λ b. cond b held (held_in old a)) eu) ∙ or_cond t u ∙ ap (λ b. cond b held (held_in old a)) (sym now)
+        ap (λ b. cond b held (entry_at mid a)) et ∙ ap (cond t held) (s.lookups a ∙ ap (λ b. cond b held (entry_at old a)) eu) ∙ or_cond t u ∙ ap (λ b. cond b held (entry_at old a)) (sym now)
       where
-        or_cond : (v w : Bool) → cond v held (cond w held (held_in old a)) ≡ cond (w || v) held (held_in old a)
+        or_cond : (v w : Bool) → cond v held (cond w held (entry_at old a)) ≡ cond (w || v) held (entry_at old a)
         or_cond true true = refl
         or_cond true false = refl
         or_cond false true = refl
         or_cond false false = refl
 
-pub sets_none : (xs : List Addr) (held : Option Held) (old : List (Addr × Held)) → InOrder (cells_in [] old) → SetsAll (take 0 xs) held old old
+pub sets_none : (xs : List Addr) (held : Option Held) (old : List (Addr × Held)) → InOrder (addresses old) → SetsAll (take 0 xs) held old old
 sets_none xs held old o = record { order = o; lookups = λ a. refl }
 
 among_take : (xs : List Addr) (i : ℕ) (a : Addr) → among (take i xs) a ≡ true → among xs a ≡ true
 among_take xs i a e = ap (λ ys. among ys a) (sym (take-append-drop i xs)) ∙ any_append a (take i xs) (drop i xs) ∙ ap (λ t. t || among (drop i xs) a) e
 
 -- cells that were empty, filled and cleared again
-pub undone : (xs : List Addr) (i : ℕ) (held : Option Held) (old mid new : List (Addr × Held)) → InOrder (cells_in [] old) → ((a : Addr) → among xs a ≡ true → held_in old a ≡ None) → SetsAll (take i xs) held old mid → SetsAll (take i xs) None mid new → new ≡ old
-undone xs i held old mid new o empty s t = same_cells new old t.order o (λ a. t.lookups a ∙ go a (among (take i xs) a) refl)
+pub undone : (xs : List Addr) (i : ℕ) (held : Option Held) (old mid new : List (Addr × Held)) → InOrder (addresses old) → ((a : Addr) → among xs a ≡ true → entry_at old a ≡ None) → SetsAll (take i xs) held old mid → SetsAll (take i xs) None mid new → new ≡ old
+undone xs i held old mid new o empty s t = one_map new old t.order o (λ a. t.lookups a ∙ go a (among (take i xs) a) refl)
   where
-    go : (a : Addr) (u : Bool) → among (take i xs) a ≡ u → cond (among (take i xs) a) None (held_in mid a) ≡ held_in old a
-    go a true e = ap (λ b. cond b None (held_in mid a)) e ∙ sym (empty a (among_take xs i a e))
-    go a false e = ap (λ b. cond b None (held_in mid a)) e ∙ s.lookups a ∙ ap (λ b. cond b held (held_in old a)) e
+    go : (a : Addr) (u : Bool) → among (take i xs) a ≡ u → cond (among (take i xs) a) None (entry_at mid a) ≡ entry_at old a
+    go a true e = ap (λ b. cond b None (entry_at mid a)) e ∙ sym (empty a (among_take xs i a e))
+    go a false e = ap (λ b. cond b None (entry_at mid a)) e ∙ s.lookups a ∙ ap (λ b. cond b held (entry_at old a)) e
 
 pub one_at_most : (t : Bool) → cond t 0 1 ≤ 1
 one_at_most true = omega arith
@@ -128,15 +76,15 @@ among_key (x ∷ xs) (suc i) d l = or_true (same_addr (get_or xs i d).0 x.0) (am
     or_true true u e = refl
     or_true false u e = e
 
-pub written_more : (xs : List (Addr × Held)) (i : ℕ) (d : Addr × Held) (mid new : List (Addr × Held)) → i < length xs → SetsHeld (get_or xs i d).0 (Some (get_or xs i d).1) mid new → written (drop (i + 1) xs) (held_in new) ≡ written (drop i xs) (held_in mid)
+pub written_more : (xs : List (Addr × Held)) (i : ℕ) (d : Addr × Held) (mid new : List (Addr × Held)) → i < length xs → SetsHeld (get_or xs i d).0 (Some (get_or xs i d).1) mid new → written (drop (i + 1) xs) (entry_at new) ≡ written (drop i xs) (entry_at mid)
 written_more xs i d mid new l s =
     let next : i + 1 ≡ suc i = omega arith in
-    (λ k. written (drop (next k) xs) (λ a. s.lookups a k)) ∙ ap (λ ys. written ys (held_in mid)) (sym (drop-cons xs i d l))
+    (λ k. written (drop (next k) xs) (λ a. s.lookups a k)) ∙ ap (λ ys. written ys (entry_at mid)) (sym (drop-cons xs i d l))
 
-pub stays_there : (at : Addr) (h : Held) (mid new : List (Addr × Held)) → SetsHeld at (Some h) mid new → (a : Addr) → IsSome (held_in mid a) → IsSome (held_in new a)
+pub stays_there : (at : Addr) (h : Held) (mid new : List (Addr × Held)) → SetsHeld at (Some h) mid new → (a : Addr) → IsSome (entry_at mid a) → IsSome (entry_at new a)
 stays_there at h mid new s a e = ap is_some (s.lookups a) ∙ go (same_addr at a)
   where
-    go : (t : Bool) → is_some (cond t (Some h) (held_in mid a)) ≡ true
+    go : (t : Bool) → is_some (cond t (Some h) (entry_at mid a)) ≡ true
     go true = refl
     go false = e
 
@@ -173,15 +121,23 @@ kept_twice p q r h k = record {
 }
 
 -- a formula that is shifted and shared
-shared_copy : (q : Trees) (e copy : Expr) (at : Addr) (id : ExprId) → copy ≡ shifted at e → IsSound at copy → StandsFor q id copy → IsCopy q (Content.Formula e) at (Held.Formula id)
+pub shared_copy : (q : Trees) (e copy : Expr) (at : Addr) (id : ExprId) → copy ≡ shifted at e → IsSound at copy → StandsFor q id copy → IsCopy q (Content.Formula e) at (Held.Formula id)
 shared_copy q e copy at id is sound s = record {
   id = s.there;
   sound = subst (IsSound at) (sym s.same) sound;
   same = ap (λ x. Some (Content.Formula x)) (sym (s.same ∙ is));
 }
 
-pub formulas_more : (p q : Trees) (e copy : Expr) (cs : List (Addr × Held)) (at : Addr) (id : ExprId) → KeepsTrees p q → AreCopies p (Content.Formula e) cs → copy ≡ shifted at e → IsSound at copy → StandsFor q id copy → AreCopies q (Content.Formula e) (cs ++ (at, Held.Formula id) ∷ [])
-formulas_more p q e copy cs at id k h is sound s = copies_append q (Content.Formula e) cs at (Held.Formula id) (copies_stay p q (Content.Formula e) cs k h) (shared_copy q e copy at id is sound s)
+-- one that stays what it is
+pub staying_copy : (p : Trees) (e : Expr) (from at : Addr) (id : ExprId) → id.0 < length p → tree_at p id ≡ e → IsSound from e → shifted at e ≡ e → IsCopy p (Content.Formula e) at (Held.Formula id)
+staying_copy p e from at id there is sound same = record {
+  id = there;
+  sound = subst (IsSound at) (same ∙ sym is) (sound_shifted from at e sound);
+  same = ap (λ x. Some (Content.Formula x)) (same ∙ sym is);
+}
+
+pub formulas_more : (p q : Trees) (e : Expr) (cs : List (Addr × Held)) (at : Addr) (id : ExprId) → KeepsTrees p q → AreCopies p (Content.Formula e) cs → IsCopy q (Content.Formula e) at (Held.Formula id) → AreCopies q (Content.Formula e) (cs ++ (at, Held.Formula id) ∷ [])
+formulas_more p q e cs at id k h i = copies_append q (Content.Formula e) cs at (Held.Formula id) (copies_stay p q (Content.Formula e) cs k h) i
 
 plain_copy : (p : Trees) (a : Addr) (h : Held) → IsPlain h → IsCopy p (content_in p h) a h
 plain_copy p a (Held.Number n) k = record { id = tt; sound = tt; same = refl }
@@ -194,25 +150,25 @@ plain_more p h cs at k c = copies_append p (content_in p h) cs at h c (plain_cop
 
 -- the empty ones among some
 
-pub among_empty : (es : List (Addr × Held)) (xs : List Addr) (a : Addr) → among (empty_among es xs) a ≡ (among xs a && not (is_some (held_in es a)))
+pub among_empty : (es : List (Addr × Held)) (xs : List Addr) (a : Addr) → among (empty_among es xs) a ≡ (among xs a && not (is_some (entry_at es a)))
 among_empty es [] a = refl
-among_empty es (x ∷ xs) a = go (same_addr a x) refl (not (is_some (held_in es x))) refl (among_empty es xs a)
+among_empty es (x ∷ xs) a = go (same_addr a x) refl (not (is_some (entry_at es x))) refl (among_empty es xs a)
   where
-    go : (t : Bool) → same_addr a x ≡ t → (u : Bool) → not (is_some (held_in es x)) ≡ u → among (empty_among es xs) a ≡ (among xs a && not (is_some (held_in es a))) → among (cond (not (is_some (held_in es x))) (x ∷ empty_among es xs) (empty_among es xs)) a ≡ ((same_addr a x || among xs a) && not (is_some (held_in es a)))
+    go : (t : Bool) → same_addr a x ≡ t → (u : Bool) → not (is_some (entry_at es x)) ≡ u → among (empty_among es xs) a ≡ (among xs a && not (is_some (entry_at es a))) → among (cond (not (is_some (entry_at es x))) (x ∷ empty_among es xs) (empty_among es xs)) a ≡ ((same_addr a x || among xs a) && not (is_some (entry_at es a)))
     go t is u eu h =
-        ap (λ b. among (cond b (x ∷ empty_among es xs) (empty_among es xs)) a) eu ∙ by t is u eu ∙ ap (λ b. (b || among xs a) && not (is_some (held_in es a))) (sym is)
+        ap (λ b. among (cond b (x ∷ empty_among es xs) (empty_among es xs)) a) eu ∙ by t is u eu ∙ ap (λ b. (b || among xs a) && not (is_some (entry_at es a))) (sym is)
       where
-        here_is : same_addr a x ≡ true → not (is_some (held_in es a)) ≡ not (is_some (held_in es x))
-        here_is e = ap (λ b. not (is_some (held_in es b))) (same_addr-true a x e)
+        here_is : same_addr a x ≡ true → not (is_some (entry_at es a)) ≡ not (is_some (entry_at es x))
+        here_is e = ap (λ b. not (is_some (entry_at es b))) (same_addr-true a x e)
 
         absorb : (v w : Bool) → (v && w) ≡ (v && w)
         absorb v w = refl
 
-        first : (v : Bool) → not (is_some (held_in es a)) ≡ false → (v && not (is_some (held_in es a))) ≡ not (is_some (held_in es a))
+        first : (v : Bool) → not (is_some (entry_at es a)) ≡ false → (v && not (is_some (entry_at es a))) ≡ not (is_some (entry_at es a))
         first true e = refl
         first false e = sym e
 
-        by : (v : Bool) → same_addr a x ≡ v → (w : Bool) → not (is_some (held_in es x)) ≡ w → among (cond w (x ∷ empty_among es xs) (empty_among es xs)) a ≡ ((v || among xs a) && not (is_some (held_in es a)))
+        by : (v : Bool) → same_addr a x ≡ v → (w : Bool) → not (is_some (entry_at es x)) ≡ w → among (cond w (x ∷ empty_among es xs) (empty_among es xs)) a ≡ ((v || among xs a) && not (is_some (entry_at es a)))
         by true e true f = ap (λ b. b || among (empty_among es xs) a) e ∙ sym (here_is e ∙ f)
         by true e false f = h ∙ first (among xs a) (here_is e ∙ f)
         by false e true f = ap (λ b. b || among (empty_among es xs) a) e ∙ h
@@ -230,23 +186,23 @@ none_from_not : (o : Option Held) → not (is_some o) ≡ true → o ≡ None
 none_from_not None e = refl
 none_from_not (Some h) e = absurd (cc)
 
-pub empty_is_none : (es : List (Addr × Held)) (xs : List Addr) (a : Addr) → among (empty_among es xs) a ≡ true → held_in es a ≡ None
-empty_is_none es xs a e = none_from_not (held_in es a) (and_right (among xs a) (not (is_some (held_in es a))) (sym (among_empty es xs a) ∙ e))
+pub empty_is_none : (es : List (Addr × Held)) (xs : List Addr) (a : Addr) → among (empty_among es xs) a ≡ true → entry_at es a ≡ None
+empty_is_none es xs a e = none_from_not (entry_at es a) (and_right (among xs a) (not (is_some (entry_at es a))) (sym (among_empty es xs a) ∙ e))
 
 pub empty_is_among : (es : List (Addr × Held)) (xs : List Addr) (a : Addr) → among (empty_among es xs) a ≡ true → among xs a ≡ true
-empty_is_among es xs a e = and_left (among xs a) (not (is_some (held_in es a))) (sym (among_empty es xs a) ∙ e)
+empty_is_among es xs a e = and_left (among xs a) (not (is_some (entry_at es a))) (sym (among_empty es xs a) ∙ e)
 
 -- once the empty ones are filled, all are there
-pub filled : (xs : List Addr) (h : Held) (old mid : List (Addr × Held)) → SetsAll (empty_among old xs) (Some h) old mid → (a : Addr) → among xs a ≡ true → IsSome (held_in mid a)
+pub filled : (xs : List Addr) (h : Held) (old mid : List (Addr × Held)) → SetsAll (empty_among old xs) (Some h) old mid → (a : Addr) → among xs a ≡ true → IsSome (entry_at mid a)
 filled xs h old mid s a e = ap is_some (s.lookups a) ∙ go (among (empty_among old xs) a) refl
   where
     there : (t : Bool) → (true && not t) ≡ false → t ≡ true
     there true f = refl
     there false f = sym f
 
-    go : (t : Bool) → among (empty_among old xs) a ≡ t → is_some (cond t (Some h) (held_in old a)) ≡ true
+    go : (t : Bool) → among (empty_among old xs) a ≡ t → is_some (cond t (Some h) (entry_at old a)) ≡ true
     go true is = refl
-    go false is = there (is_some (held_in old a)) (ap (λ t. t && not (is_some (held_in old a))) (sym e) ∙ sym (among_empty old xs a) ∙ is)
+    go false is = there (is_some (entry_at old a)) (ap (λ t. t && not (is_some (entry_at old a))) (sym e) ∙ sym (among_empty old xs a) ∙ is)
 
 -- what stands beside an address after all are written
 
@@ -276,9 +232,9 @@ pub copies_to : (p : Trees) (c : Content) (xs : List Addr) (h : Held) (cs old mi
 copies_to p c xs h cs old mid new keys all s w = record {
   order = w.order;
   copies = λ a e.
-      let found = written_found p c cs (held_in mid) a all (ap (λ ks. among ks a) keys ∙ e) in
+      let found = written_found p c cs (entry_at mid) a all (ap (λ ks. among ks a) keys ∙ e) in
       (found.0, (λ i. w.lookups i a) ∙ found.1, found.2);
   others = λ a e.
-      (λ i. w.lookups i a) ∙ written_other cs (held_in mid) a (ap (λ ks. among ks a) keys ∙ e) ∙ s.lookups a
-      ∙ ap (λ t. cond t (Some h) (held_in old a)) (among_empty old xs a ∙ ap (λ t. t && not (is_some (held_in old a))) e);
+      (λ i. w.lookups i a) ∙ written_other cs (entry_at mid) a (ap (λ ks. among ks a) keys ∙ e) ∙ s.lookups a
+      ∙ ap (λ t. cond t (Some h) (entry_at old a)) (among_empty old xs a ∙ ap (λ t. t && not (is_some (entry_at old a))) e);
 }

@@ -10,13 +10,15 @@ use Rattle.std.specs.BTreeSet as sorted
 use Rattle.cell_values.specs.contracts.address.AddrOrd.TheImpl as addr_ord
 use Rattle.cell_values.specs.declared.address.Addr.{Addr}
 use Rattle.cell_values.specs.Addresses.{IsBefore, IsOnSheet}
-use Rattle.demand_spec.specs.Book.{Content, cell_in}
+use Rattle.cell_values.specs.Order.{entry_at}
+use Rattle.cell_values.proofs.Order.{cmp_less, lookup_is}
+use Rattle.demand_spec.specs.Book.{Content}
 use Rattle.workbook_core.specs.contracts.cells.ColumnFirstOrd.TheImpl as column_ord
 use Rattle.workbook_core.specs.declared.Content.{Content as Held}
 use Rattle.workbook_core.specs.declared.cells.ColumnFirst.{ColumnFirst}
 use Rattle.workbook_core.specs.Books.{IsNextCell, IsLastCell, IsLastRow, IsLastColumn, IsEmptySheet}
-use Rattle.workbook_core.specs.Held.{held_in, content_in, cells_in, turned, AreIndexed, AreOnSheets}
-use Rattle.workbook_core.proofs.Lookups.{held_is, held_cells, column_is, before_from_cmp}
+use Rattle.workbook_core.specs.Held.{content_in, cells_in, turned, AreIndexed, AreOnSheets}
+use Rattle.workbook_core.proofs.Lookups.{held_cells, column_is}
 use Rattle.workbook_core.proofs.Orders.{three_less, three_greater, greater_three, not_greater, is_not_greater, is_not_less, le_from_not, between_equal}
 
 cmp_from_before : (a b : Addr) → IsBefore a b → (addr_ord.ghosts).cmp a b ≡ Less
@@ -33,11 +35,11 @@ there : (o : Option Held) (c : Content) → option_map (content_in []) o ≡ Som
 there None c e = absurd (cc)
 there (Some h) c e = refl
 
-entry_from_cell : (m : BTreeMap Addr Held) (a : Addr) (c : Content) → cell_in (cells_in [] m.entries) a ≡ Some c → IsSome (tree.get ((addr_ord.ghosts).cmp) m a)
-entry_from_cell m a c e = there (tree.get ((addr_ord.ghosts).cmp) m a) c (ap (option_map (content_in [])) (held_is m.entries a) ∙ sym (held_cells [] m.entries a) ∙ e)
+entry_from_cell : (m : BTreeMap Addr Held) (a : Addr) (c : Content) → entry_at (cells_in [] m.entries) a ≡ Some c → IsSome (tree.get ((addr_ord.ghosts).cmp) m a)
+entry_from_cell m a c e = there (tree.get ((addr_ord.ghosts).cmp) m a) c (ap (option_map (content_in [])) (lookup_is m.entries a) ∙ sym (held_cells [] m.entries a) ∙ e)
 
-cell_from_entry : (m : BTreeMap Addr Held) (a : Addr) (h : Option Held) → tree.get ((addr_ord.ghosts).cmp) m a ≡ h → cell_in (cells_in [] m.entries) a ≡ option_map (content_in []) h
-cell_from_entry m a h e = held_cells [] m.entries a ∙ ap (option_map (content_in [])) (sym (held_is m.entries a) ∙ e)
+cell_from_entry : (m : BTreeMap Addr Held) (a : Addr) (h : Option Held) → tree.get ((addr_ord.ghosts).cmp) m a ≡ h → entry_at (cells_in [] m.entries) a ≡ option_map (content_in []) h
+cell_from_entry m a h e = held_cells [] m.entries a ∙ ap (option_map (content_in [])) (sym (lookup_is m.entries a) ∙ e)
 
 -- the first entry behind an address
 pub next_is : (m : BTreeMap Addr Held) (at : Addr) (r u : List (Addr × Held)) (e : Addr × Held) → IsRangeOf ((addr_ord.ghosts).cmp) (Excluded at) Unbounded m r → r ≡ e ∷ u → IsNextCell (cells_in [] m.entries) (Some at) e.0
@@ -45,7 +47,7 @@ next_is m at r u e h is =
     let k : IsRangeOf ((addr_ord.ghosts).cmp) (Excluded at) Unbounded m (e ∷ u) = subst (IsRangeOf ((addr_ord.ghosts).cmp) (Excluded at) Unbounded m) is h in
     record {
       cell = (content_in [] e.1, cell_from_entry m e.0 (Some e.1) k.1.1);
-      behind = before_from_cmp at e.0 k.1.0.0;
+      behind = cmp_less at e.0 k.1.0.0;
       least = λ a c there after before. is_not_greater ((addr_ord.ghosts).cmp e.0 a) (k.2 a (cmp_from_before at a after, tt) (entry_from_cell m a c there)) (after_from_before a e.0 before);
     }
 
@@ -85,7 +87,7 @@ on_sheet m all a e = go (tree.get ((addr_ord.ghosts).cmp) m a) refl e
   where
     go : (o : Option Held) → tree.get ((addr_ord.ghosts).cmp) m a ≡ o → IsSome o → IsOnSheet a
     go None is e = absurd (cc)
-    go (Some h) is e = all a h (sym (held_is m.entries a) ∙ is)
+    go (Some h) is e = all a h (sym (lookup_is m.entries a) ∙ is)
 
 in_sheet : (m : BTreeMap Addr Held) (sheet : ℕ) → AreOnSheets m.entries → (a : Addr) → a.sheet ≡ sheet → IsSome (tree.get ((addr_ord.ghosts).cmp) m a) → IsInRange ((addr_ord.ghosts).cmp) (Included (corner sheet 0 0)) (Included (corner sheet 65536 256)) a
 in_sheet m sheet all a is e = (from_corner sheet a is, to_corner sheet a is (on_sheet m all a e))
@@ -140,17 +142,17 @@ to_column sheet a is on = not_greater ((column_ord.ghosts).cmp (turned a) (colum
     go (inr (e, inl h)) = omega (arith, on.col_to)
     go (inr (e, inr (f, h))) = omega (arith, on.row_to)
 
-held_from_column : (rows : List (Addr × Held)) (s : BTreeSet ColumnFirst) (a : Addr) → AreIndexed rows s.keys → sorted.contains ((column_ord.ghosts).cmp) s (turned a) ≡ is_some (held_in rows a)
+held_from_column : (rows : List (Addr × Held)) (s : BTreeSet ColumnFirst) (a : Addr) → AreIndexed rows s.keys → sorted.contains ((column_ord.ghosts).cmp) s (turned a) ≡ is_some (entry_at rows a)
 held_from_column rows s a h = column_is s.keys (turned a) ∙ h.same a
 
 some_of : (o : Option Held) → is_some o ≡ true → (h : Held) × (o ≡ Some h)
 some_of None e = absurd (cc)
 some_of (Some h) e = (h, refl)
 
-column_from_cell : (rows : List (Addr × Held)) (s : BTreeSet ColumnFirst) (a : Addr) (c : Content) → AreIndexed rows s.keys → cell_in (cells_in [] rows) a ≡ Some c → sorted.contains ((column_ord.ghosts).cmp) s (turned a) ≡ true
-column_from_cell rows s a c h e = held_from_column rows s a h ∙ there (held_in rows a) c (sym (held_cells [] rows a) ∙ e)
+column_from_cell : (rows : List (Addr × Held)) (s : BTreeSet ColumnFirst) (a : Addr) (c : Content) → AreIndexed rows s.keys → entry_at (cells_in [] rows) a ≡ Some c → sorted.contains ((column_ord.ghosts).cmp) s (turned a) ≡ true
+column_from_cell rows s a c h e = held_from_column rows s a h ∙ there (entry_at rows a) c (sym (held_cells [] rows a) ∙ e)
 
-in_columns : (rows : List (Addr × Held)) (s : BTreeSet ColumnFirst) (sheet : ℕ) (a : Addr) (h : Held) → AreOnSheets rows → a.sheet ≡ sheet → held_in rows a ≡ Some h → IsInRange ((column_ord.ghosts).cmp) (Included (column_corner sheet 0 0)) (Included (column_corner sheet 256 65536)) (turned a)
+in_columns : (rows : List (Addr × Held)) (s : BTreeSet ColumnFirst) (sheet : ℕ) (a : Addr) (h : Held) → AreOnSheets rows → a.sheet ≡ sheet → entry_at rows a ≡ Some h → IsInRange ((column_ord.ghosts).cmp) (Included (column_corner sheet 0 0)) (Included (column_corner sheet 256 65536)) (turned a)
 in_columns rows s sheet a h all is e = (from_column sheet a is, to_column sheet a is (all a h e))
 
 -- the last column of a sheet
@@ -158,20 +160,20 @@ pub last_column_is : (rows : List (Addr × Held)) (s : BTreeSet ColumnFirst) (sh
 last_column_is rows s sheet r t k x all h is =
     let e = h.3 k t is in
     let same : k.sheet ≡ sheet = between_equal sheet k.sheet k.col k.row k.col k.row 0 0 256 65536 e.0.0 e.0.1 in
-    let found = some_of (held_in rows (turned_back k)) (sym (held_from_column rows s (turned_back k) x) ∙ e.1) in
+    let found = some_of (entry_at rows (turned_back k)) (sym (held_from_column rows s (turned_back k) x) ∙ e.1) in
     record {
       there = (turned_back k, content_in [] found.0, same, refl, held_cells [] rows (turned_back k) ∙ ap (option_map (content_in [])) found.1);
       within = λ a c on cell.
-          let held = some_of (held_in rows a) (there (held_in rows a) c (sym (held_cells [] rows a) ∙ cell)) in
+          let held = some_of (entry_at rows a) (there (entry_at rows a) c (sym (held_cells [] rows a) ∙ cell)) in
           le_from_not a.col k.col (λ more. is_not_less ((column_ord.ghosts).cmp k (turned a))
           (h.4 k t is (turned a) (in_columns rows s sheet a held.0 all on held.1) (column_from_cell rows s a c x cell))
           (three_less k.sheet a.sheet k.col a.col k.row a.row (inr (same ∙ sym on, inl more))));
     }
 
 pub no_column_is : (rows : List (Addr × Held)) (s : BTreeSet ColumnFirst) (sheet : ℕ) (r : List ColumnFirst) → AreIndexed rows s.keys → AreOnSheets rows → IsKeyRangeOf ((column_ord.ghosts).cmp) (Included (column_corner sheet 0 0)) (Included (column_corner sheet 256 65536)) s r → r ≡ [] → IsEmptySheet (cells_in [] rows) sheet
-no_column_is rows s sheet r x all h is a on = held_cells [] rows a ∙ ap (option_map (content_in [])) (none_is (held_in rows a) (λ e. absurd (never (some_of (held_in rows a) e))))
+no_column_is rows s sheet r x all h is a on = held_cells [] rows a ∙ ap (option_map (content_in [])) (none_is (entry_at rows a) (λ e. absurd (never (some_of (entry_at rows a) e))))
   where
-    never : ((held : Held) × (held_in rows a ≡ Some held)) → ⊥
+    never : ((held : Held) × (entry_at rows a ≡ Some held)) → ⊥
     never (held, e) =
         let out : sorted.contains ((column_ord.ghosts).cmp) s (turned a) ≡ false = h.5 is (turned a) (in_columns rows s sheet a held all on e) in
         let in_set : sorted.contains ((column_ord.ghosts).cmp) s (turned a) ≡ true = held_from_column rows s a x ∙ ap is_some e in

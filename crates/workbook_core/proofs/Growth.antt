@@ -2,20 +2,24 @@
 use Rattle.std.proofs.Common.{◌≡◌, ℕ, inl, inr, ◌<◌, ◌≤◌, cond, List, [], ◌∷◌, length, Bool, true, false, Option, Some, None, option_map, refl, sym, ap, subst, ◌∙◌, arith}
 use Rattle.std.proofs.lemmas.List.{length-take}
 use Rattle.std.proofs.Math.Seq.{take-length}
+use Rattle.cell_values.specs.declared.TheConstants.{MAX_BOOK_CELLS}
 use Rattle.cell_values.specs.declared.address.Addr.{Addr}
 use Rattle.cell_values.specs.Addresses.{same_addr, IsBefore}
 use Rattle.cell_values.specs.Interned.{KeepsTexts}
 use Rattle.cell_values.specs.Texts.{Texts}
+use Rattle.cell_values.specs.Order.{InOrder, addresses, entry_at}
+use Rattle.cell_values.proofs.Order.{never_before, same_addr-refl, same_addr-true}
 use Rattle.formula_trees.specs.Expr.{Expr, Exprs, Ref, Range, RefError, Unary, Binary, Call, End, More}
 use Rattle.formula_trees.specs.TextNumbers.{TextsBelow, AllTextsBelow}
-use Rattle.demand_spec.specs.Book.{Content, cell_in}
-use Rattle.demand_spec.specs.Listed.{InOrder, IsBeforeAll, IsContentOf}
+use Rattle.demand_spec.specs.Book.{Content}
+use Rattle.demand_spec.specs.Listed.{IsContentOf}
+use Rattle.demand_spec.proofs.OneList.{before_found}
 use Rattle.shared_expressions.specs.Trees.{Trees, KeepsTrees}
 use Rattle.workbook_core.specs.declared.Content.{Content as Held}
 use Rattle.workbook_core.specs.Books.{IsCell, IsKept, MayHold}
 use Rattle.demand_spec.specs.Edits.{Put, IsApplied}
-use Rattle.workbook_core.specs.Held.{held_in, content_in, cells_in, IsHeldOf, AreOnSheets, SetsHeld}
-use Rattle.workbook_core.proofs.Lookups.{held_cells, length-cells_in, order_same, same_addr-true, same_addr-refl}
+use Rattle.workbook_core.specs.Held.{content_in, cells_in, IsHeldOf, AreOnSheets, SetsHeld}
+use Rattle.workbook_core.proofs.Lookups.{held_cells, length-cells_in, in_book, from_book}
 
 -- a formula's text numbers stay below a greater limit
 mutual
@@ -65,19 +69,6 @@ same_trees p = record { longer = omega arith; keeps = λ i l. refl }
 
 -- cells in order
 
-pub before_found : (b : Addr) (es : List (Addr × Held)) (a : Addr) (h : Held) → IsBeforeAll b (cells_in [] es) → held_in es a ≡ Some h → IsBefore b a
-before_found b [] a h k e = absurd (cc)
-before_found b (c ∷ es) a h k e = go (same_addr a c.0) refl (before_found b es a h k.1) e
-  where
-    go : (t : Bool) → same_addr a c.0 ≡ t → (held_in es a ≡ Some h → IsBefore b a) → cond t (Some c.1) (held_in es a) ≡ Some h → IsBefore b a
-    go true is later e = subst (IsBefore b) (sym (same_addr-true a c.0 is)) k.0
-    go false is later e = later e
-
-pub never_before : (a : Addr) → IsBefore a a → ⊥
-never_before a (inl h) = omega arith
-never_before a (inr (e, inl h)) = omega arith
-never_before a (inr (e, inr (f, h))) = omega arith
-
 pub apart_from_before : (a b : Addr) → IsBefore b a → same_addr a b ≡ false
 apart_from_before a b h = go (same_addr a b) refl
   where
@@ -86,13 +77,13 @@ apart_from_before a b h = go (same_addr a b) refl
     go false is = refl
 
 -- what a later cell holds is found behind the first one too
-pub found_behind : (e : Addr × Held) (es : List (Addr × Held)) (a : Addr) (h : Held) → InOrder (cells_in [] (e ∷ es)) → held_in es a ≡ Some h → held_in (e ∷ es) a ≡ Some h
-found_behind e es a h o f = ap (λ t. cond t (Some e.1) (held_in es a)) (apart_from_before a e.0 (before_found e.0 es a h o.0 f)) ∙ f
+pub found_behind : (e : Addr × Held) (es : List (Addr × Held)) (a : Addr) (h : Held) → InOrder (addresses (e ∷ es)) → entry_at es a ≡ Some h → entry_at (e ∷ es) a ≡ Some h
+found_behind e es a h o f = ap (λ t. cond t (Some e.1) (entry_at es a)) (apart_from_before a e.0 (before_found e.0 es a h o.0 f)) ∙ f
 
-pub cells_same : (p q : Trees) (es : List (Addr × Held)) → KeepsTrees p q → InOrder (cells_in [] es) → ((a : Addr) (h : Held) → held_in es a ≡ Some h → IsHeldOf p h) → cells_in q es ≡ cells_in p es
+pub cells_same : (p q : Trees) (es : List (Addr × Held)) → KeepsTrees p q → InOrder (addresses es) → ((a : Addr) (h : Held) → entry_at es a ≡ Some h → IsHeldOf p h) → cells_in q es ≡ cells_in p es
 cells_same p q [] k o ids = refl
 cells_same p q (e ∷ es) k o ids =
-    let here : held_in (e ∷ es) e.0 ≡ Some e.1 = ap (λ t. cond t (Some e.1) (held_in es e.0)) (same_addr-refl e.0) in
+    let here : entry_at (e ∷ es) e.0 ≡ Some e.1 = ap (λ t. cond t (Some e.1) (entry_at es e.0)) (same_addr-refl e.0) in
     let first : content_in q e.1 ≡ content_in p e.1 = content_same p q e.1 k (ids e.0 e.1 here) in
     let rest : cells_in q es ≡ cells_in p es = cells_same p q es k o.1 (λ a h f. ids a h (found_behind e es a h o f)) in
     λ i. (e.0, first i) ∷ rest i
@@ -103,22 +94,23 @@ cell_grows : (ts us : Texts) (count : ℕ) (a : Addr) (c : Content) → KeepsTex
 cell_grows ts us count a c k h = record {
   on_sheet = h.on_sheet;
   sheet = h.sheet;
+  fits = h.fits;
   sound = h.sound;
   texts = content_stays ts us c (kept_length ts us k) h.texts;
   sheets = h.sheets;
 }
 
 pub kept_cells : (es : List (Addr × Held)) (ts : Texts) (names : List (List ℕ)) (p q : Trees) → KeepsTrees p q → IsKept es ts names p → cells_in q es ≡ cells_in p es
-kept_cells es ts names p q k h = cells_same p q es k (order_same p [] es h.workbook.order) h.ids
+kept_cells es ts names p q k h = cells_same p q es k (from_book p es h.workbook.order) h.ids
 
 pub kept_grows : (es : List (Addr × Held)) (ts us : Texts) (names : List (List ℕ)) (p q : Trees) → KeepsTexts ts us → KeepsTrees p q → IsKept es ts names p → IsKept es us names q
 kept_grows es ts us names p q kt kp h =
     let same : cells_in q es ≡ cells_in p es = kept_cells es ts names p q kp h in
     record {
       workbook = record {
-        order = order_same p q es h.workbook.order;
+        order = in_book q es (from_book p es h.workbook.order);
         few = omega (arith, length-cells_in p es, length-cells_in q es, h.workbook.few);
-        cells = λ a c e. cell_grows ts us (length names) a c kt (h.workbook.cells a c (ap (λ x. cell_in x a) (sym same) ∙ e));
+        cells = λ a c e. cell_grows ts us (length names) a c kt (h.workbook.cells a c (ap (λ x. entry_at x a) (sym same) ∙ e));
       };
       ids = λ a x e. held_stays p q x kp (h.ids a x e);
     }
@@ -127,39 +119,39 @@ kept_grows es ts us names p q kt kp h =
 
 pub applied_set : (p : Trees) (es fs : List (Addr × Held)) (at : Addr) (held : Option Held) → SetsHeld at held es fs → IsApplied (Put at (option_map (content_in p) held)) (cells_in p es) (cells_in p fs)
 applied_set p es fs at held h = record {
-  order = order_same [] p fs h.order;
-  lookups = λ a. held_cells p fs a ∙ ap (option_map (content_in p)) (h.lookups a) ∙ through (same_addr at a) (held_in es a) ∙ ap (cond (same_addr at a) (option_map (content_in p) held)) (sym (held_cells p es a));
+  order = in_book p fs h.order;
+  lookups = λ a. held_cells p fs a ∙ ap (option_map (content_in p)) (h.lookups a) ∙ through (same_addr at a) (entry_at es a) ∙ ap (cond (same_addr at a) (option_map (content_in p) held)) (sym (held_cells p es a));
 }
   where
     through : (t : Bool) (o : Option Held) → option_map (content_in p) (cond t held o) ≡ cond t (option_map (content_in p) held) (option_map (content_in p) o)
     through true o = refl
     through false o = refl
 
-pub held_cell : (es : List (Addr × Held)) (ts : Texts) (names : List (List ℕ)) (p : Trees) → IsKept es ts names p → (a : Addr) (h : Held) → held_in es a ≡ Some h → MayHold ts (length names) p a (Some h)
+pub held_cell : (es : List (Addr × Held)) (ts : Texts) (names : List (List ℕ)) (p : Trees) → IsKept es ts names p → (a : Addr) (h : Held) → entry_at es a ≡ Some h → MayHold ts (length names) p a (Some h)
 held_cell es ts names p k a h e = (k.ids a h e, k.workbook.cells a (content_in p h) (held_cells p es a ∙ ap (option_map (content_in p)) e))
 
 pub on_sheets : (es : List (Addr × Held)) (ts : Texts) (names : List (List ℕ)) (p : Trees) → IsKept es ts names p → AreOnSheets es
 on_sheets es ts names p k a h e = (held_cell es ts names p k a h e).1.on_sheet
 
 -- cells that all may stand where they do
-pub kept_from : (es : List (Addr × Held)) (ts : Texts) (names : List (List ℕ)) (p : Trees) → InOrder (cells_in [] es) → length es ≤ 200000 → ((a : Addr) (h : Held) → held_in es a ≡ Some h → MayHold ts (length names) p a (Some h)) → IsKept es ts names p
+pub kept_from : (es : List (Addr × Held)) (ts : Texts) (names : List (List ℕ)) (p : Trees) → InOrder (addresses es) → length es ≤ MAX_BOOK_CELLS → ((a : Addr) (h : Held) → entry_at es a ≡ Some h → MayHold ts (length names) p a (Some h)) → IsKept es ts names p
 kept_from es ts names p o few all = record {
   workbook = record {
-    order = order_same [] p es o;
+    order = in_book p es o;
     few = omega (arith, length-cells_in p es, few);
-    cells = λ a c e. of_cell a c (held_in es a) refl (sym (held_cells p es a) ∙ e);
+    cells = λ a c e. of_cell a c (entry_at es a) refl (sym (held_cells p es a) ∙ e);
   };
   ids = λ a h e. (all a h e).0;
 }
   where
-    of_cell : (a : Addr) (c : Content) (o : Option Held) → held_in es a ≡ o → option_map (content_in p) o ≡ Some c → IsCell ts (length names) a c
+    of_cell : (a : Addr) (c : Content) (o : Option Held) → entry_at es a ≡ o → option_map (content_in p) o ≡ Some c → IsCell ts (length names) a c
     of_cell a c None is e = absurd (cc)
     of_cell a c (Some h) is e = let same : content_in p h ≡ c = cc in subst (IsCell ts (length names) a) same (all a h is).1
 
-pub kept_set : (es fs : List (Addr × Held)) (ts : Texts) (names : List (List ℕ)) (p : Trees) (at : Addr) (held : Option Held) → IsKept es ts names p → SetsHeld at held es fs → length fs ≤ 200000 → MayHold ts (length names) p at held → IsKept fs ts names p
+pub kept_set : (es fs : List (Addr × Held)) (ts : Texts) (names : List (List ℕ)) (p : Trees) (at : Addr) (held : Option Held) → IsKept es ts names p → SetsHeld at held es fs → length fs ≤ MAX_BOOK_CELLS → MayHold ts (length names) p at held → IsKept fs ts names p
 kept_set es fs ts names p at held k s few may = kept_from fs ts names p s.order few (λ a h e. go a h (same_addr at a) refl held may (sym (s.lookups a) ∙ e))
   where
-    go : (a : Addr) (h : Held) (t : Bool) → same_addr at a ≡ t → (o : Option Held) → MayHold ts (length names) p at o → cond t o (held_in es a) ≡ Some h → MayHold ts (length names) p a (Some h)
+    go : (a : Addr) (h : Held) (t : Bool) → same_addr at a ≡ t → (o : Option Held) → MayHold ts (length names) p at o → cond t o (entry_at es a) ≡ Some h → MayHold ts (length names) p a (Some h)
     go a h true is None m e = absurd (cc)
     go a h true is (Some x) m e =
         let same : x ≡ h = cc in

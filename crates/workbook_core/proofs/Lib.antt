@@ -9,3 +9,4 @@ pub mod Copied
 pub mod Walked
 pub mod Books
 pub mod Fields
+pub mod Firsts

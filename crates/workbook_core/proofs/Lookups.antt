@@ -1,29 +1,24 @@
 -- Cells in ordered maps, read by address.
 use Rattle.std.proofs.Common.{◌≡◌, ◌+◌, cond, ◌&&◌, ◌||◌, List, [], ◌∷◌, eqb, is_eq, Less, Bool, true, false, Option, Some, None, option_map, is_some, length, refl, sym, ap, subst, ◌∙◌, suc, arith}
-use Rattle.std.specs.List.{list_any, AllByRecursion}
-use Rattle.std.specs.List.Sorted.{IsStrictlySortedBy}
+use Rattle.std.specs.List.{list_any}
 use Rattle.std.specs.Map.{lookup, keys_of}
 use Rattle.std.specs.BTreeMap.{BTreeMap, IsOrdered}
 use Rattle.std.specs.BTreeMap as tree
 use Rattle.std.specs.BTreeSet.{BTreeSet}
 use Rattle.std.specs.BTreeSet as sorted
-use Rattle.std.proofs.lemmas.Map.Keys.{sorted_head, sorted_tail}
 use Rattle.cell_values.specs.contracts.address.AddrOrd.TheImpl as addr_ord
 use Rattle.cell_values.specs.declared.address.Addr.{Addr}
-use Rattle.cell_values.specs.Addresses.{same_addr, IsBefore}
-use Rattle.demand_spec.specs.Book.{cell_in}
-use Rattle.demand_spec.specs.Listed.{InOrder, IsBeforeAll}
+use Rattle.cell_values.specs.Addresses.{same_addr}
+use Rattle.cell_values.specs.Order.{InOrder, addresses, entry_at}
+use Rattle.cell_values.proofs.Order.{same_cmp, same_addr-true, lookup_is, entries_in_order}
 use Rattle.shared_expressions.specs.Trees.{Trees}
-use Rattle.workbook_core.proofs.Orders.{is_eq-three, less_three}
+use Rattle.workbook_core.proofs.Orders.{is_eq-three}
 use Rattle.workbook_core.specs.contracts.cells.ColumnFirstOrd.TheImpl as column_ord
 use Rattle.workbook_core.specs.declared.Content.{Content as Held}
 use Rattle.workbook_core.specs.declared.cells.ColumnFirst.{ColumnFirst}
-use Rattle.workbook_core.specs.Held.{held_in, content_in, cells_in, turned, same_turned, AreIndexed, SetsHeld}
+use Rattle.workbook_core.specs.Held.{content_in, cells_in, turned, same_turned, AreIndexed, SetsHeld}
 
 -- the orders tell addresses apart
-
-pub same_cmp : (a b : Addr) → is_eq ((addr_ord.ghosts).cmp a b) ≡ same_addr a b
-same_cmp a b = is_eq-three a.sheet b.sheet a.row b.row a.col b.col
 
 and_swap : (a b c : Bool) → (a && (b && c)) ≡ (a && (c && b))
 and_swap false b c = refl
@@ -40,10 +35,6 @@ same_turned-turned a b = and_swap (eqb a.sheet b.sheet) (eqb a.col b.col) (eqb a
 
 -- look-ups
 
-pub held_is : (es : List (Addr × Held)) (a : Addr) → lookup (λ k. is_eq ((addr_ord.ghosts).cmp a k)) es ≡ held_in es a
-held_is [] a = refl
-held_is (e ∷ es) a = λ i. cond (same_cmp a e.0 i) (Some e.1) (held_is es a i)
-
 pub column_is : (ks : List ColumnFirst) (a : ColumnFirst) → list_any (λ k. is_eq ((column_ord.ghosts).cmp a k)) ks ≡ list_any (same_turned a) ks
 column_is [] a = refl
 column_is (k ∷ ks) a = λ i. same_column a k i || column_is ks a i
@@ -52,41 +43,32 @@ option_map-cond : (p : Trees) (t : Bool) (h : Held) (o : Option Held) → cond t
 option_map-cond p true h o = refl
 option_map-cond p false h o = refl
 
-pub held_cells : (p : Trees) (es : List (Addr × Held)) (a : Addr) → cell_in (cells_in p es) a ≡ option_map (content_in p) (held_in es a)
+pub held_cells : (p : Trees) (es : List (Addr × Held)) (a : Addr) → entry_at (cells_in p es) a ≡ option_map (content_in p) (entry_at es a)
 held_cells p [] a = refl
-held_cells p (e ∷ es) a = ap (cond (same_addr a e.0) (Some (content_in p e.1))) (held_cells p es a) ∙ option_map-cond p (same_addr a e.0) e.1 (held_in es a)
+held_cells p (e ∷ es) a = ap (cond (same_addr a e.0) (Some (content_in p e.1))) (held_cells p es a) ∙ option_map-cond p (same_addr a e.0) e.1 (entry_at es a)
 
 pub length-cells_in : (p : Trees) (es : List (Addr × Held)) → length (cells_in p es) ≡ length es
 length-cells_in p [] = refl
 length-cells_in p (e ∷ es) = ap suc (length-cells_in p es)
 
--- order
+-- order, over all pools
 
-pub before_from_cmp : (a b : Addr) → (addr_ord.ghosts).cmp a b ≡ Less → IsBefore a b
-before_from_cmp a b e = less_three a.sheet b.sheet a.row b.row a.col b.col e
+addresses_in : (p : Trees) (es : List (Addr × Held)) → addresses (cells_in p es) ≡ addresses es
+addresses_in p [] = refl
+addresses_in p (e ∷ es) = λ i. e.0 ∷ addresses_in p es i
 
-before_all : (p : Trees) (a : Addr) (es : List (Addr × Held)) → AllByRecursion (λ y. (addr_ord.ghosts).cmp a y ≡ Less) (keys_of es) → IsBeforeAll a (cells_in p es)
-before_all p a [] h = tt
-before_all p a (e ∷ es) h = (before_from_cmp a e.0 h.0, before_all p a es h.1)
+pub in_book : (p : Trees) (es : List (Addr × Held)) → InOrder (addresses es) → InOrder (addresses (cells_in p es))
+in_book p es h = subst InOrder (sym (addresses_in p es)) h
 
-pub order : (p : Trees) (es : List (Addr × Held)) → IsStrictlySortedBy ((addr_ord.ghosts).cmp) (keys_of es) → InOrder (cells_in p es)
-order p [] h = tt
-order p (e ∷ es) h = (before_all p e.0 es (sorted_head ((addr_ord.ghosts).cmp) e.0 (keys_of es) h), order p es (sorted_tail ((addr_ord.ghosts).cmp) e.0 (keys_of es) h))
-
-before_all_same : (p q : Trees) (a : Addr) (es : List (Addr × Held)) → IsBeforeAll a (cells_in p es) → IsBeforeAll a (cells_in q es)
-before_all_same p q a [] h = tt
-before_all_same p q a (e ∷ es) h = (h.0, before_all_same p q a es h.1)
-
-pub order_same : (p q : Trees) (es : List (Addr × Held)) → InOrder (cells_in p es) → InOrder (cells_in q es)
-order_same p q [] h = tt
-order_same p q (e ∷ es) h = (before_all_same p q e.0 es h.0, order_same p q es h.1)
+pub from_book : (p : Trees) (es : List (Addr × Held)) → InOrder (addresses (cells_in p es)) → InOrder (addresses es)
+from_book p es h = subst InOrder (addresses_in p es) h
 
 -- one cell of a map changed
 
 pub sets_held : (m n : BTreeMap Addr Held) (at : Addr) (held : Option Held) → tree.Updates ((addr_ord.ghosts).cmp) m n at held → tree.IsOrdered ((addr_ord.ghosts).cmp) n → SetsHeld at held m.entries n.entries
 sets_held m n at held u o = record {
-  order = order [] n.entries o;
-  lookups = λ a. sym (held_is n.entries a) ∙ u.0 a ∙ (λ i. cond (same_cmp at a i) held (held_is m.entries a i));
+  order = entries_in_order n.entries o;
+  lookups = λ a. sym (lookup_is n.entries a) ∙ u.0 a ∙ (λ i. cond (same_cmp at a i) held (lookup_is m.entries a i));
 }
 
 is_some-cond : (t : Bool) (w o : Option Held) → is_some (cond t w o) ≡ cond t (is_some w) (is_some o)
@@ -101,42 +83,36 @@ column_after s t at b u a =
 pub indexed_after : (old new : List (Addr × Held)) (s t : BTreeSet ColumnFirst) (at : Addr) (held : Option Held) (key : ColumnFirst) → key ≡ turned at → AreIndexed old s.keys → SetsHeld at held old new → sorted.Updates ((column_ord.ghosts).cmp) s t key (is_some held) → AreIndexed new t.keys
 indexed_after old new s t at held key is h k v = let u : sorted.Updates ((column_ord.ghosts).cmp) s t (turned at) (is_some held) = subst (λ x. sorted.Updates ((column_ord.ghosts).cmp) s t x (is_some held)) is v in record {
   order = k.order;
-  same = λ a. column_after s t at (is_some held) u a ∙ ap (cond (same_addr at a) (is_some held)) (h.same a) ∙ sym (is_some-cond (same_addr at a) held (held_in old a)) ∙ ap is_some (sym (k.lookups a));
+  same = λ a. column_after s t at (is_some held) u a ∙ ap (cond (same_addr at a) (is_some held)) (h.same a) ∙ sym (is_some-cond (same_addr at a) held (entry_at old a)) ∙ ap is_some (sym (k.lookups a));
 }
 
 none_from_absent : (o : Option Held) → is_some o ≡ false → o ≡ None
 none_from_absent None e = refl
 none_from_absent (Some h) e = cc
 
-pub same_addr-refl : (a : Addr) → same_addr a a ≡ true
-same_addr-refl a = grind arith
-
 -- an address that is not among the columns has no cell
-pub absent : (old : List (Addr × Held)) (s : BTreeSet ColumnFirst) (at : Addr) (key : ColumnFirst) → key ≡ turned at → AreIndexed old s.keys → sorted.contains ((column_ord.ghosts).cmp) s key ≡ false → held_in old at ≡ None
-absent old s at key is h v = let e : sorted.contains ((column_ord.ghosts).cmp) s (turned at) ≡ false = subst (λ x. sorted.contains ((column_ord.ghosts).cmp) s x ≡ false) is v in none_from_absent (held_in old at) (sym (h.same at) ∙ sym (column_is s.keys (turned at)) ∙ e)
+pub absent : (old : List (Addr × Held)) (s : BTreeSet ColumnFirst) (at : Addr) (key : ColumnFirst) → key ≡ turned at → AreIndexed old s.keys → sorted.contains ((column_ord.ghosts).cmp) s key ≡ false → entry_at old at ≡ None
+absent old s at key is h v = let e : sorted.contains ((column_ord.ghosts).cmp) s (turned at) ≡ false = subst (λ x. sorted.contains ((column_ord.ghosts).cmp) s x ≡ false) is v in none_from_absent (entry_at old at) (sym (h.same at) ∙ sym (column_is s.keys (turned at)) ∙ e)
 
-pub absent_from_map : (m : BTreeMap Addr Held) (at : Addr) → tree.get ((addr_ord.ghosts).cmp) m at ≡ None → held_in m.entries at ≡ None
-absent_from_map m at e = sym (held_is m.entries at) ∙ e
+pub absent_from_map : (m : BTreeMap Addr Held) (at : Addr) → tree.get ((addr_ord.ghosts).cmp) m at ≡ None → entry_at m.entries at ≡ None
+absent_from_map m at e = sym (lookup_is m.entries at) ∙ e
 
 cond_twice : (t : Bool) (b c o : Bool) → (t ≡ true → o ≡ c) → cond t c (cond t b o) ≡ o
 cond_twice true b c o h = sym (h refl)
 cond_twice false b c o h = refl
 
-pub same_addr-true : (a b : Addr) → same_addr a b ≡ true → a ≡ b
-same_addr-true a b e = grind arith
-
 -- a column that is put in and taken out again
-pub indexed_again : (old : List (Addr × Held)) (s t u : BTreeSet ColumnFirst) (at : Addr) (k l : ColumnFirst) → k ≡ turned at → l ≡ turned at → AreIndexed old s.keys → held_in old at ≡ None → sorted.Updates ((column_ord.ghosts).cmp) s t k true → sorted.Updates ((column_ord.ghosts).cmp) t u l false → AreIndexed old u.keys
+pub indexed_again : (old : List (Addr × Held)) (s t u : BTreeSet ColumnFirst) (at : Addr) (k l : ColumnFirst) → k ≡ turned at → l ≡ turned at → AreIndexed old s.keys → entry_at old at ≡ None → sorted.Updates ((column_ord.ghosts).cmp) s t k true → sorted.Updates ((column_ord.ghosts).cmp) t u l false → AreIndexed old u.keys
 indexed_again old s t u at k l is_k is_l h none v w =
     let p : sorted.Updates ((column_ord.ghosts).cmp) s t (turned at) true = subst (λ x. sorted.Updates ((column_ord.ghosts).cmp) s t x true) is_k v in
     let q : sorted.Updates ((column_ord.ghosts).cmp) t u (turned at) false = subst (λ x. sorted.Updates ((column_ord.ghosts).cmp) t u x false) is_l w in
     record {
       order = h.order;
       same = λ a. column_after t u at false q a ∙ ap (cond (same_addr at a) false) (column_after s t at true p a)
-          ∙ cond_twice (same_addr at a) true false (list_any (same_turned (turned a)) s.keys) (λ e. h.same a ∙ ap (λ x. is_some (held_in old x)) (sym (same_addr-true at a e)) ∙ ap is_some none)
+          ∙ cond_twice (same_addr at a) true false (list_any (same_turned (turned a)) s.keys) (λ e. h.same a ∙ ap (λ x. is_some (entry_at old x)) (sym (same_addr-true at a e)) ∙ ap is_some none)
           ∙ h.same a;
     }
 
 -- the length of a map after an insertion
-pub added_length : (m n : BTreeMap Addr Held) (at : Addr) (was : Option Held) → was ≡ tree.get ((addr_ord.ghosts).cmp) m at → length n.entries ≡ length m.entries + cond (is_some was) 0 1 → length n.entries ≡ length m.entries + cond (is_some (held_in m.entries at)) 0 1
-added_length m n at was is e = e ∙ ap (λ o. length m.entries + cond (is_some o) 0 1) (is ∙ held_is m.entries at)
+pub added_length : (m n : BTreeMap Addr Held) (at : Addr) (was : Option Held) → was ≡ tree.get ((addr_ord.ghosts).cmp) m at → length n.entries ≡ length m.entries + cond (is_some was) 0 1 → length n.entries ≡ length m.entries + cond (is_some (entry_at m.entries at)) 0 1
+added_length m n at was is e = e ∙ ap (λ o. length m.entries + cond (is_some o) 0 1) (is ∙ lookup_is m.entries at)

@@ -1,11 +1,12 @@
 -- What is told of cells is the same over all pools.
 use Rattle.std.proofs.Common.{◌≡◌, ℕ, List, Option, Some, None, option_map, IfNone, refl, sym, ◌∙◌}
 use Rattle.cell_values.specs.declared.address.Addr.{Addr}
-use Rattle.demand_spec.specs.Book.{Content, cell_in}
+use Rattle.cell_values.specs.Order.{entry_at}
+use Rattle.demand_spec.specs.Book.{Content}
 use Rattle.shared_expressions.specs.Trees.{Trees}
 use Rattle.workbook_core.specs.declared.Content.{Content as Held}
 use Rattle.workbook_core.specs.Books.{IsNextCell, IsLastCell, IsLastRow, IsLastColumn, IsExtent, IsEmptySheet}
-use Rattle.workbook_core.specs.Held.{held_in, content_in, cells_in}
+use Rattle.workbook_core.specs.Held.{content_in, cells_in}
 use Rattle.workbook_core.proofs.Lookups.{held_cells}
 
 same_some : (p q : Trees) (o : Option Held) (c : Content) → option_map (content_in p) o ≡ Some c → (d : Content) × (option_map (content_in q) o ≡ Some d)
@@ -16,11 +17,11 @@ same_none : (p q : Trees) (o : Option Held) → option_map (content_in p) o ≡ 
 same_none p q None e = refl
 same_none p q (Some h) e = absurd (cc)
 
-cell_of : (p q : Trees) (es : List (Addr × Held)) (a : Addr) (c : Content) → cell_in (cells_in p es) a ≡ Some c → (d : Content) × (cell_in (cells_in q es) a ≡ Some d)
-cell_of p q es a c e = let h = same_some p q (held_in es a) c (sym (held_cells p es a) ∙ e) in (h.0, held_cells q es a ∙ h.1)
+cell_of : (p q : Trees) (es : List (Addr × Held)) (a : Addr) (c : Content) → entry_at (cells_in p es) a ≡ Some c → (d : Content) × (entry_at (cells_in q es) a ≡ Some d)
+cell_of p q es a c e = let h = same_some p q (entry_at es a) c (sym (held_cells p es a) ∙ e) in (h.0, held_cells q es a ∙ h.1)
 
-none_of : (p q : Trees) (es : List (Addr × Held)) (a : Addr) → cell_in (cells_in p es) a ≡ None → cell_in (cells_in q es) a ≡ None
-none_of p q es a e = held_cells q es a ∙ same_none p q (held_in es a) (sym (held_cells p es a) ∙ e)
+none_of : (p q : Trees) (es : List (Addr × Held)) (a : Addr) → entry_at (cells_in p es) a ≡ None → entry_at (cells_in q es) a ≡ None
+none_of p q es a e = held_cells q es a ∙ same_none p q (entry_at es a) (sym (held_cells p es a) ∙ e)
 
 pub next_same : (p q : Trees) (es : List (Addr × Held)) (after : Option Addr) (next : Addr) → IsNextCell (cells_in p es) after next → IsNextCell (cells_in q es) after next
 next_same p q es after next h = record {

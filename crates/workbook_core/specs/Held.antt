@@ -3,16 +3,11 @@ use Rattle.std.specs.Prelude.{◌≡◌, ◌<◌, Bool, true, false, Option, Som
 use Rattle.std.specs.List.{list_any}
 use Rattle.cell_values.specs.declared.address.Addr.{Addr}
 use Rattle.cell_values.specs.Addresses.{same_addr, IsOnSheet}
+use Rattle.cell_values.specs.Order.{InOrder, addresses, entry_at}
 use Rattle.demand_spec.specs.Book.{Content}
-use Rattle.demand_spec.specs.Listed.{InOrder}
 use Rattle.shared_expressions.specs.Trees.{Trees, tree_at}
 use Rattle.workbook_core.specs.declared.Content.{Content as Held}
 use Rattle.workbook_core.specs.declared.cells.ColumnFirst.{ColumnFirst}
-
--- what stands beside an address
-abbrev pub held_in : List (Addr × Held) → Addr → Option Held
-held_in [] a = None
-held_in (c ∷ rest) a = cond (same_addr a c.0) (Some c.1) (held_in rest a)
 
 -- the content of a cell, with its formula as a tree
 abbrev pub content_in : Trees → Held → Content
@@ -32,7 +27,7 @@ IsHeldOf p _ = Unit {0}
 
 -- each cell is one of a sheet
 abbrev pub AreOnSheets : List (Addr × Held) → Type 0
-AreOnSheets es = (a : Addr) (h : Held) → held_in es a ≡ Some h → IsOnSheet a
+AreOnSheets es = (a : Addr) (h : Held) → entry_at es a ≡ Some h → IsOnSheet a
 
 -- an address with its column before its row
 abbrev pub turned : Addr → ColumnFirst
@@ -43,13 +38,13 @@ same_turned a b = (a.sheet == b.sheet) && ((a.col == b.col) && (a.row == b.row))
 
 -- cells in order, and the same addresses by column
 pub record AreIndexed (rows : List (Addr × Held)) (columns : List ColumnFirst) : Type 0 where
-  pub order : InOrder (cells_in [] rows)
-  pub same : (a : Addr) → list_any (same_turned (turned a)) columns ≡ is_some (held_in rows a)
+  pub order : InOrder (addresses rows)
+  pub same : (a : Addr) → list_any (same_turned (turned a)) columns ≡ is_some (entry_at rows a)
 
 -- the new cells are in order, have this at one address, and elsewhere what the old ones have
 pub record SetsHeld (at : Addr) (held : Option Held) (old new : List (Addr × Held)) : Type 0 where
-  pub order : InOrder (cells_in [] new)
-  pub lookups : (a : Addr) → held_in new a ≡ cond (same_addr at a) held (held_in old a)
+  pub order : InOrder (addresses new)
+  pub lookups : (a : Addr) → entry_at new a ≡ cond (same_addr at a) held (entry_at old a)
 
 -- it is a formula
 abbrev pub holds_formula : Option Held → Bool

@@ -1,9 +1,9 @@
 //! Many cells at once.
 ghost use Rattle.std.specs.Map.{keys_of};
 ghost use Rattle.std.specs.Prelude.{◌≡◌, ◌+◌, ◌≤◌, true, [], Some, None, IsSome, length, IfOk, OnOk, OnErr};
-ghost use Rattle.demand_spec.specs.Listed.{InOrder};
+ghost use Rattle.cell_values.specs.Order.{InOrder, addresses as cell_addresses, entry_at};
 ghost use Rattle.workbook_core.specs.Copies.{among, empty_among, SetsAll, Writes};
-ghost use Rattle.workbook_core.specs.Held.{held_in, cells_in, SetsHeld};
+ghost use Rattle.workbook_core.specs.Held.{cells_in, SetsHeld};
 
 use crate::Content;
 use crate::cells::CellMap;
@@ -30,7 +30,7 @@ impl CellMap {
 
     /// Clears cells.
     pub(crate) fn remove_all(&mut self, addresses: &[Addr])
-        requires { InOrder (cells_in [] self.old) }
+        requires { InOrder (cell_addresses self.old) }
         ensures removed { SetsAll addresses.now None self.old self.new }
         ensures len { length self.new ≤ length self.old }
     {
@@ -41,8 +41,8 @@ impl CellMap {
 
     /// Puts a content into empty cells, into all or none.
     pub(crate) fn add_all(&mut self, addresses: &[Addr], content: Content) -> Result<(), AllocError>
-        requires order { InOrder (cells_in [] self.old) }
-        requires empty { (a : _) → among addresses.now a ≡ true → held_in self.old a ≡ None }
+        requires order { InOrder (cell_addresses self.old) }
+        requires empty { (a : _) → among addresses.now a ≡ true → entry_at self.old a ≡ None }
         ensures ok { OnOk result (SetsAll addresses.now (Some content) self.old self.new) }
         ensures len { OnOk result (length self.new ≤ length self.old + length addresses.now) }
         ensures err { OnErr result (self.new ≡ self.old) }
@@ -58,8 +58,8 @@ impl CellMap {
 
     /// Puts contents into cells that are not empty. Takes no memory.
     pub(crate) fn replace_all(&mut self, contents: &[(Addr, Content)])
-        requires order { InOrder (cells_in [] self.old) }
-        requires there { (a : _) → among (keys_of contents.now) a ≡ true → IsSome (held_in self.old a) }
+        requires order { InOrder (cell_addresses self.old) }
+        requires there { (a : _) → among (keys_of contents.now) a ≡ true → IsSome (entry_at self.old a) }
         ensures written { Writes contents.now self.old self.new }
         ensures len { length self.new ≡ length self.old }
     {
@@ -70,7 +70,7 @@ impl CellMap {
 
     /// Puts a content into a cell that is not empty.
     fn replace(&mut self, at: Addr, content: Content)
-        requires { IsSome (held_in self.old at) }
+        requires { IsSome (entry_at self.old at) }
         ensures replaced { SetsHeld at (Some content) self.old self.new }
         ensures len { length self.new ≡ length self.old }
     {

@@ -1,8 +1,9 @@
 //! The cells of a book by address, and their addresses by column.
 ghost use Rattle.std.specs.Prelude.{◌≡◌, ◌+◌, ◌<◌, ◌≤◌, [], Some, None, is_some, cond, if◌then◌else◌, length, OnOk, OnErr, IfSome, IfNone, MatchOption};
 ghost use Rattle.cell_values.specs.Addresses.{same_addr};
+ghost use Rattle.cell_values.specs.Order.{addresses, entry_at};
 ghost use Rattle.workbook_core.specs.Books.{IsNextCell, IsLastCell, IsExtent, IsLastRow, IsLastColumn, IsEmptySheet};
-ghost use Rattle.workbook_core.specs.Held.{held_in, cells_in, turned, AreOnSheets, SetsHeld};
+ghost use Rattle.workbook_core.specs.Held.{cells_in, turned, AreOnSheets, SetsHeld};
 
 use crate::Content;
 use cell_values::{Addr, LAST_COLUMN, LAST_ROW};
@@ -63,7 +64,7 @@ impl CellMap {
 
     /// What a cell holds.
     pub(crate) fn get(&self, at: Addr) -> Option<Content>
-        ensures { result ≡ held_in self.now at }
+        ensures { result ≡ entry_at self.now at }
     {
         self.by_row.get(&at).copied()
     }
@@ -78,9 +79,9 @@ impl CellMap {
     /// Puts a content into a cell. Only an empty cell takes memory.
     pub(crate) fn set(&mut self, at: Addr, content: Content) -> Result<(), AllocError>
         ensures ok { OnOk result (SetsHeld at (Some content) self.old self.new) }
-        ensures len { OnOk result (length self.new ≡ length self.old + (if is_some (held_in self.old at) then 0 else 1)) }
+        ensures len { OnOk result (length self.new ≡ length self.old + (if is_some (entry_at self.old at) then 0 else 1)) }
         ensures err { OnErr result (self.new ≡ self.old) }
-        ensures empty { OnErr result (held_in self.old at ≡ None) }
+        ensures empty { OnErr result (entry_at self.old at ≡ None) }
     {
         self.by_column.insert(turned(at))?;
         match self.by_row.insert(at, content) {

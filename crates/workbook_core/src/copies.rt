@@ -1,24 +1,25 @@
 //! Copies of a cell.
 ghost use Rattle.std.specs.Map.{keys_of};
-ghost use Rattle.std.specs.Prelude.{◌≡◌, ◌<◌, ◌≤◌, ◌++◌, [], length, IfOk, OnOk, IfErr, OnErr};
-ghost use Rattle.cell_values.specs.Areas.{height, row_of, walk, IsArea};
-ghost use Rattle.formula_trees.specs.Expr.{expr_of};
+ghost use Rattle.std.specs.Prelude.{◌≡◌, ◌<◌, ◌≤◌, true, [], length, IfOk, OnOk, IfErr, IfSome, OnErr};
+ghost use Rattle.cell_values.specs.Areas.{walk, IsArea};
+ghost use Rattle.cell_values.specs.Order.{InOrder, addresses as cell_addresses};
+ghost use Rattle.formula_trees.specs.Expr.{Expr, expr_of, exprs_of};
+ghost use Rattle.formula_trees.specs.Mapped.{all_mapped};
+ghost use Rattle.formula_trees.specs.Shifted.{shifted, copied_cell, copied_range, kept_area};
 ghost use Rattle.formula_trees.specs.Sound.{IsSound};
 ghost use Rattle.demand_spec.specs.Book.{Content as BookContent};
-ghost use Rattle.demand_spec.specs.Listed.{InOrder, IsSoundAt};
-ghost use Rattle.shared_expressions.specs.Trees.{KeepsTrees};
-ghost use Rattle.workbook_core.specs.Copies.{AreCopies, CopiesTo, HasNoRoom, IsPlain};
+ghost use Rattle.demand_spec.specs.Listed.{IsSoundAt};
+ghost use Rattle.shared_expressions.specs.Trees.{tree_at, KeepsTrees};
+ghost use Rattle.workbook_core.specs.Copies.{IsCopy, AreCopies, CopiesTo, HasNoRoom, IsPlain};
 ghost use Rattle.workbook_core.specs.Held.{content_in, cells_in, IsHeldOf};
 
 use crate::cells::CellMap;
 use crate::{Content, EditFault};
-use cell_values::{Addr, Area};
-use formula_trees::{Tree, shift};
-use shared_expressions::Pool;
+use cell_values::{Addr, Area, MAX_BOOK_CELLS, MAX_RANGE_CELLS};
+use formula_trees::shift::shift;
+use formula_trees::{Args, Tree, area_of, resolve};
+use shared_expressions::{ExprId, Pool};
 use std::alloc::{AllocError, Global};
-
-/// The most cells of a workbook.
-pub(crate) const MAX_CELLS: usize = 200_000;
 
 /// The addresses of an area, row by row.
 pub(crate) fn addresses_of(alloc: Global, area: Area) -> Result<Vec<Addr>, AllocError>
@@ -26,26 +27,10 @@ pub(crate) fn addresses_of(alloc: Global, area: Area) -> Result<Vec<Addr>, Alloc
     ensures { IfOk result (λ addresses. addresses.items ≡ walk area) }
 {
     let mut addresses = Vec::new(alloc);
-    for i in 0..area.bottom + 1 - area.top {
-        push_row(&mut addresses, area, i)?;
+    for n in 0..area.size() {
+        addresses.push(area.nth(n))?;
     }
     Ok(addresses)
-}
-
-/// The addresses of a row of an area, counted from 0.
-fn push_row(addresses: &mut Vec<Addr>, area: Area, i: u32) -> Result<(), AllocError>
-    requires area { IsArea area }
-    requires row { i < height area }
-    ensures { OnOk result (addresses.new.items ≡ addresses.old.items ++ row_of area i) }
-{
-    for j in 0..area.right + 1 - area.left {
-        addresses.push(Addr {
-            sheet: area.sheet,
-            row: area.top + i,
-            col: area.left + j,
-        })?;
-    }
-    Ok(())
 }
 
 /// Puts copies of what the cell `from` holds into cells, into all or none.
@@ -57,18 +42,18 @@ pub(crate) fn copy_cells(
     from: Addr,
     addresses: &[Addr],
 ) -> Result<(), EditFault>
-    requires order { InOrder (cells_in [] cells.old) }
-    requires few { length cells.old ≤ 200000 }
+    requires order { InOrder (cell_addresses cells.old) }
+    requires few { length cells.old ≤ MAX_BOOK_CELLS }
     requires id { IsHeldOf pool.old content }
     requires sound { IsSoundAt from (content_in pool.old content) }
     ensures ok { OnOk result (CopiesTo pool.new (content_in pool.old content) addresses.now cells.old cells.new) }
-    ensures few { length cells.new ≤ 200000 }
+    ensures few { length cells.new ≤ MAX_BOOK_CELLS }
     ensures fault { IfErr result (HasNoRoom cells.old addresses.now) }
     ensures err { OnErr result (cells.new ≡ cells.old) }
     ensures kept_trees { KeepsTrees pool.old pool.new }
 {
     let empty = cells.empty_among(alloc, addresses)?;
-    if cells.len() + empty.len() > MAX_CELLS {
+    if cells.len() + empty.len() > MAX_BOOK_CELLS as usize {
         return Err(EditFault::TooManyCells);
     }
     let copies = copies_of(alloc, pool, content, from, addresses)?;
@@ -94,32 +79,93 @@ fn copies_of(
     match content {
         Content::Formula(id) => {
             let tree = pool.tree(alloc, id)?;
-            shifted_copies(alloc, pool, &tree, from, addresses)
+            formula_copies(alloc, pool, id, &tree, from, addresses)
         }
         plain => same_copies(alloc, pool, plain, addresses),
     }
 }
 
-/// Each of these cells with the formula of the cell `from`, shifted.
-fn shifted_copies(
+/// Each of these cells with the formula of the cell `from`, as it is copied there.
+fn formula_copies(
     alloc: Global,
     pool: &mut Pool,
+    id: ExprId,
     tree: &Tree,
     from: Addr,
     addresses: &[Addr],
 ) -> Result<Vec<(Addr, Content)>, AllocError>
-    requires { IsSound from (expr_of tree.now) }
+    requires there { id.0 < length pool.old }
+    requires tree { tree_at pool.old id ≡ expr_of tree.now }
+    requires sound { IsSound from (expr_of tree.now) }
     ensures keys { IfOk result (λ copies. keys_of copies.items ≡ addresses.now) }
     ensures copies { IfOk result (λ copies. AreCopies pool.new (BookContent.Formula (expr_of tree.now)) copies.items) }
     ensures kept_trees { KeepsTrees pool.old pool.new }
 {
     let mut copies = Vec::new(alloc);
     for at in addresses {
-        let copy = shift(alloc, tree, from, *at)?;
-        let id = pool.intern(alloc, &copy)?;
-        copies.push((*at, Content::Formula(id)))?;
+        let copy = copy_of(alloc, pool, id, tree, from, *at)?;
+        copies.push((*at, Content::Formula(copy)))?;
     }
     Ok(copies)
+}
+
+/// A formula's copy at a cell: the same expression where no reference is lost there.
+fn copy_of(
+    alloc: Global,
+    pool: &mut Pool,
+    id: ExprId,
+    tree: &Tree,
+    from: Addr,
+    at: Addr,
+) -> Result<ExprId, AllocError>
+    requires there { id.0 < length pool.old }
+    requires tree { tree_at pool.old id ≡ expr_of tree.now }
+    requires sound { IsSound from (expr_of tree.now) }
+    ensures copy { IfOk result (λ copy. IsCopy pool.new (BookContent.Formula (expr_of tree.now)) at (Content.Formula copy)) }
+    ensures kept_trees { KeepsTrees pool.old pool.new }
+{
+    if stays(tree, at) {
+        return Ok(id);
+    }
+    let copy = shift(alloc, tree, from, at)?;
+    pool.intern(alloc, &copy)
+}
+
+/// Whether no reference and no range of a formula is lost at a cell.
+#[cycle(stays)]
+fn stays(tree: &Tree, at: Addr) -> bool
+    ensures { result ≡ true → shifted at (expr_of tree.now) ≡ expr_of tree.now }
+{
+    match tree {
+        Tree::Ref(r) => resolve(r, at).is_some(),
+        Tree::Range(r, s) => is_small(area_of(r, s, at)),
+        Tree::Unary(_, a) => stays(a, at),
+        Tree::Binary(_, a, b) => stays(a, at) && stays(b, at),
+        Tree::Call(_, args) => all_stay(args, at),
+        Tree::Number(_) | Tree::Text(_) | Tree::Bool(_) | Tree::RefError => true,
+    }
+}
+
+/// The same for arguments.
+#[cycle(stays)]
+fn all_stay(args: &Args, at: Addr) -> bool
+    ensures { result ≡ true → all_mapped (copied_cell at) (copied_range at) (λ t. t) (exprs_of args.now) ≡ exprs_of args.now }
+{
+    match args {
+        Args::End => true,
+        Args::More(a, rest) => stays(a, at) && all_stay(rest, at),
+    }
+}
+
+/// Whether there is an area that a range may have.
+fn is_small(area: Option<Area>) -> bool
+    requires { IfSome area IsArea }
+    ensures { (range : Expr) → result ≡ true → kept_area range area ≡ range }
+{
+    match area {
+        Some(area) => area.size() <= MAX_RANGE_CELLS,
+        None => false,
+    }
 }
 
 /// Each of these cells with a content that is no formula.

@@ -1,14 +1,14 @@
 //! Why an edit is refused.
 
-use formula_grammar::FormulaFault;
+use formula_grammar::{FaultKind, FormulaFault};
 use std::alloc::AllocError;
 
 /// Why an edit is refused.
 #[derive(Clone, Copy, Debug, PartialEq, Eq)]
 pub enum EditFault {
-    /// The formula has this fault: the byte where its token begins, counted from 0 at the `=`, and the number of
-    /// the fault, 1 to 10.
-    BadFormula { place: u32, number: u8 },
+    /// The formula has this fault: the byte where its token begins, counted from 0 at the `=`, and what is wrong
+    /// there.
+    BadFormula { place: u32, kind: FaultKind },
     /// The book would have more than 200,000 cells.
     TooManyCells,
     OutOfMemory,
@@ -33,7 +33,7 @@ impl From<FormulaFault> for EditFault {
 
     fn from(fault: FormulaFault) -> EditFault {
         match fault {
-            FormulaFault::Bad { place, number } => EditFault::BadFormula { place, number },
+            FormulaFault::Bad { place, kind } => EditFault::BadFormula { place, kind },
             FormulaFault::OutOfMemory => EditFault::OutOfMemory,
         }
     }

@@ -1,23 +1,28 @@
 //! Workbooks.
-ghost use Rattle.std.specs.Prelude.{◌≡◌, ℕ, ◌<◌, ◌≤◌, ◌*◌, [], Some, None, true, is_some, length, option_map, IfOk, IfErr, IfSome, IfNone, OnOk, OnErr, MatchResult};
+ghost use Rattle.std.specs.Prelude.{◌≡◌, ℕ, ◌<◌, ◌≤◌, ◌*◌, [], Some, None, true, is_some, length, option_map, IfOk, IfErr, IfSome, OnOk, OnErr, MatchResult};
 ghost use Rattle.cell_values.specs.Addresses.{IsOnSheet};
 ghost use Rattle.cell_values.specs.Areas.{height, width, IsArea};
 ghost use Rattle.cell_values.specs.Fields.{raw_of, IsRawOf};
 ghost use Rattle.cell_values.specs.Interned.{KeepsTexts};
+ghost use Rattle.cell_values.specs.Names.{AreSheetNames};
 ghost use Rattle.cell_values.specs.declared.fields.Raw.{Raw};
+ghost use Rattle.cell_values.specs.Order.{addresses, entry_at};
 ghost use Rattle.formula_tokens.specs.Words.{begins_with};
-ghost use Rattle.demand_spec.specs.Book.{Content, cell_in};
+ghost use Rattle.formula_grammar.specs.declared.faults.FaultKind.{FaultKind};
+ghost use Rattle.demand_spec.specs.Book.{Content};
 ghost use Rattle.shared_expressions.specs.Trees.{KeepsTrees};
-ghost use Rattle.workbook_core.specs.Books.{IsNextCell, IsLastCell, IsExtent, IsEmptySheet, IsWorkbook};
+ghost use Rattle.workbook_core.specs.Books.{next_in, extent_in, IsWorkbook};
 ghost use Rattle.demand_spec.specs.Edits.{Put, Copy, IsApplied, IsTooLarge};
 ghost use Rattle.workbook_core.specs.Edits.{Puts, with_field, FieldHasFault, IsField, IsPutFault, IsCopyFault, IsThisFault, IsTooMany};
 ghost use Rattle.workbook_core.specs.Faults.{IsFieldFault, IsOutOfMemory, IsRead, IsWithoutRoom};
 ghost use Rattle.workbook_core.specs.Held.{content_in, holds_formula, IsHeldOf, SetsHeld};
 
 use crate::cells::CellMap;
-use crate::copies::{MAX_CELLS, addresses_of, copy_cells};
+use crate::copies::{addresses_of, copy_cells};
 use crate::{Content, EditFault};
-use cell_values::{Addr, Area, FieldText, Raw, SheetNames, Texts};
+use cell_values::{
+    Addr, Area, FieldText, MAX_BOOK_CELLS, MAX_RANGE_CELLS, Raw, SheetNames, Texts,
+};
 use demand_spec::BookView;
 use formula_grammar::{FormulaFault, read_formula};
 use shared_expressions::Pool;
@@ -66,7 +71,7 @@ impl Workbook {
 
     /// What a cell holds, None where it is empty.
     pub fn content(&self, at: Addr) -> Option<Content>
-        ensures content { option_map (content_in self.now.pool) result ≡ cell_in self.now.book.cells at }
+        ensures content { option_map (content_in self.now.pool) result ≡ entry_at self.now.book.cells at }
         ensures id { IfSome result (IsHeldOf self.now.pool) }
         ensures workbook { IsWorkbook self.now }
     {
@@ -76,31 +81,32 @@ impl Workbook {
     /// How many cells are not empty.
     pub fn count(&self) -> u32
         ensures count { result ≡ length self.now.book.cells }
-        ensures few { result ≤ 200000 }
+        ensures few { result ≤ MAX_BOOK_CELLS }
     {
         self.cells.len() as u32
     }
 
     /// The first cell that is not empty and lies behind the given address, or the first of all.
     pub fn next_cell(&self, after: Option<Addr>) -> Option<Addr>
-        ensures some { IfSome result (IsNextCell self.now.book.cells after) }
-        ensures none { IfNone result (IsLastCell self.now.book.cells after) }
+        ensures { result ≡ next_in self.now.book.cells after }
     {
         self.cells.next(after)
     }
 
     /// The last row and the last column that hold a cell of the sheet, None for an empty sheet.
     pub fn extent(&self, sheet: u8) -> Option<(u32, u16)>
-        ensures some { IfSome result (IsExtent self.now.book.cells sheet) }
-        ensures none { IfNone result (IsEmptySheet self.now.book.cells sheet) }
+        ensures { result ≡ extent_in sheet self.now.book.cells }
     {
         self.cells.extent(sheet)
     }
 
     /// The names of the sheets.
     pub fn sheets(&self) -> &SheetNames
-        ensures { result.now ≡ self.now.names }
+        ensures names { result.now ≡ self.now.names }
+        ensures sound { AreSheetNames self.now.names }
     {
+        // `count` tells what all lists of names keep.
+        let _count = self.sheets.count();
         &self.sheets
     }
 
@@ -155,8 +161,8 @@ impl Workbook {
 
         // A formula with a fault is refused for it, and a field that makes the book too large for that, want of
         // memory apart.
-        ensures refused { (place n : ℕ) → FieldHasFault self.old.names self.old.book.texts raw.now place n →
-            MatchResult result (λ _. ⊥) (IsThisFault place n) }
+        ensures refused { (place : ℕ) (kind : FaultKind) → FieldHasFault self.old.names self.old.book.texts raw.now place kind →
+            MatchResult result (λ _. ⊥) (IsThisFault place kind) }
         ensures large { (held : _) → Puts self.old.names self.old.book.texts at raw.now held →
             IsTooLarge (Put at held) self.old.book.cells → MatchResult result (λ _. ⊥) IsTooMany }
         ensures names { self.new.names ≡ self.old.names }
@@ -184,7 +190,7 @@ impl Workbook {
     pub fn copy(&mut self, alloc: Global, from: Addr, to: Area) -> Result<(), EditFault>
         requires area { IsArea to }
         requires sheet { to.sheet < length self.old.names }
-        requires small { height to * width to ≤ 65536 }
+        requires small { height to * width to ≤ MAX_RANGE_CELLS }
         ensures ok { OnOk result (IsApplied (Copy from to) self.old.book.cells self.new.book.cells) }
         ensures fault { IfErr result (IsCopyFault self.old.book.cells from to) }
         ensures err { OnErr result (self.new.book.cells ≡ self.old.book.cells) }
@@ -228,7 +234,7 @@ fn read_content(
     requires formula { IsField raw.now }
     ensures ok { IfOk result (IsRead sheets.now texts.old texts.new pool.new at raw.now) }
     ensures fault { IfErr result (IsFieldFault sheets.now texts.old raw.now) }
-    ensures refused { (place n : ℕ) → FieldHasFault sheets.now texts.old raw.now place n → MatchResult result (λ _. ⊥) (IsThisFault place n) }
+    ensures refused { (place : ℕ) (kind : FaultKind) → FieldHasFault sheets.now texts.old raw.now place kind → MatchResult result (λ _. ⊥) (IsThisFault place kind) }
     ensures read { (held : _) → Puts sheets.now texts.old at raw.now held → MatchResult result (λ found. option_map (content_in pool.new) found ≡ held) IsOutOfMemory }
     ensures kept_texts { KeepsTexts texts.old texts.new }
     ensures kept_trees { KeepsTrees pool.old pool.new }
@@ -256,7 +262,7 @@ fn read_shared(
     requires formula { begins_with 61 text.now ≡ true }
     ensures ok { IfOk result (IsRead sheets.now texts.old texts.new pool.new at (Raw.Formula text.now)) }
     ensures fault { IfErr result (IsFieldFault sheets.now texts.old (Raw.Formula text.now)) }
-    ensures refused { (place n : ℕ) → FieldHasFault sheets.now texts.old (Raw.Formula text.now) place n → MatchResult result (λ _. ⊥) (IsThisFault place n) }
+    ensures refused { (place : ℕ) (kind : FaultKind) → FieldHasFault sheets.now texts.old (Raw.Formula text.now) place kind → MatchResult result (λ _. ⊥) (IsThisFault place kind) }
     ensures read { (held : _) → Puts sheets.now texts.old at (Raw.Formula text.now) held → MatchResult result (λ found. option_map (content_in pool.new) found ≡ held) IsOutOfMemory }
     ensures kept_texts { KeepsTexts texts.old texts.new }
     ensures kept_trees { KeepsTrees pool.old pool.new }
@@ -268,13 +274,13 @@ fn read_shared(
 
 /// Puts a content into a cell, unless there would be too many cells.
 fn set_cell(cells: &mut CellMap, at: Addr, content: Content) -> Result<(), EditFault>
-    requires { length cells.old ≤ 200000 }
+    requires { length cells.old ≤ MAX_BOOK_CELLS }
     ensures ok { OnOk result (SetsHeld at (Some content) cells.old cells.new) }
-    ensures few { length cells.new ≤ 200000 }
+    ensures few { length cells.new ≤ MAX_BOOK_CELLS }
     ensures fault { IfErr result (IsWithoutRoom cells.old at) }
     ensures err { OnErr result (cells.new ≡ cells.old) }
 {
-    if cells.get(at).is_none() && cells.len() >= MAX_CELLS {
+    if cells.get(at).is_none() && cells.len() >= MAX_BOOK_CELLS as usize {
         return Err(EditFault::TooManyCells);
     }
     cells.set(at, content)?;

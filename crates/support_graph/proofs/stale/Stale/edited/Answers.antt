@@ -6,10 +6,11 @@ use Rattle.cell_values.specs.declared.address.Addr.{Addr}
 use Rattle.cell_values.specs.Areas.{is_inside}
 use Rattle.cell_values.specs.Order.{InOrder}
 use Rattle.demand_spec.specs.Laws.{In}
+use Rattle.demand_spec.proofs.Spread.{filter_order}
 use Rattle.support_graph.specs.Support.{IsCell}
 use Rattle.support_graph.specs.Steps.{IsFrontier, stays}
 use Rattle.support_graph.proofs.Books.{pending_in_book, closed_in_book}
-use Rattle.support_graph.proofs.Lists.{filtered_in_order, staying}
+use Rattle.support_graph.proofs.Lists.{staying}
 use Rattle.support_graph.proofs.Reach.{all_stay, merged_as, none_found, pending_are}
 use Rattle.support_graph.proofs.stale.Stale.edited.Goals as goal
 
@@ -17,7 +18,7 @@ pub merged-requires-clause-old : goal.merged-requires-clause-old
 merged-requires-clause-old c =
     let pass = stays c.args.support.now c.args.changed in
     let same : c.deref-then-has_gone-2.result.now ≡ filter pass c.self.inside.cells.items = c.deref-then-has_gone-2.ensures.value ∙ c.in_ok-staying.ensures ∙ (λ i. filter pass (c.deref-then-has_gone.ensures.value i)) in
-    subst InOrder (sym same) (filtered_in_order pass c.self.inside.cells.items c.self.invariant.in_order)
+    subst InOrder (sym same) (filter_order pass c.self.inside.cells.items c.self.invariant.in_order)
 
 -- the cells after gone ones were taken out
 

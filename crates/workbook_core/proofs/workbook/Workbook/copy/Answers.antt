@@ -7,11 +7,11 @@ use Rattle.workbook_core.specs.Edits.{IsCopyFault, IsTooMany}
 use Rattle.workbook_core.specs.Held.{content_in, cells_in}
 use Rattle.workbook_core.proofs.Books.{copies_kept_on, copies_applied, copies_fault, copies_large, cleared_applied, cleared_kept, too_many_from_copies}
 use Rattle.workbook_core.proofs.Growth.{held_cell, kept_cells}
-use Rattle.workbook_core.proofs.Lookups.{length-cells_in, order_same}
+use Rattle.workbook_core.proofs.Lookups.{length-cells_in, from_book}
 use Rattle.workbook_core.proofs.workbook.Workbook.copy.Goals as goal
 
 pub copy_cells-requires-clause-order : goal.copy_cells-requires-clause-order
-copy_cells-requires-clause-order c = order_same c.self.inside.pool [] c.self.inside.cells c.self.invariant.workbook.order
+copy_cells-requires-clause-order c = from_book c.self.inside.pool c.self.inside.cells c.self.invariant.workbook.order
 
 pub copy_cells-requires-clause-few : goal.copy_cells-requires-clause-few
 copy_cells-requires-clause-few c = omega (arith, length-cells_in c.self.inside.pool c.self.inside.cells, c.self.invariant.workbook.few)
@@ -59,7 +59,7 @@ returns-in-Some-clause-large c = λ large.
     (IfErr-weaker c.copy_cells.result (HasNoRoom c.self.inside.cells c.deref.result.now) IsTooMany (too_many_from_copies c.self.inside.cells c.deref.result.now) c.copy_cells.ensures.fault)
 
 pub remove_all-requires : goal.remove_all-requires
-remove_all-requires c = order_same c.self.inside.pool [] c.self.inside.cells c.self.invariant.workbook.order
+remove_all-requires c = from_book c.self.inside.pool c.self.inside.cells c.self.invariant.workbook.order
 
 pub invariant_of-self-in-None : goal.invariant_of-self-in-None
 invariant_of-self-in-None c =

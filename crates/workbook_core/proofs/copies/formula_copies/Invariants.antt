@@ -4,7 +4,7 @@ use Rattle.demand_spec.specs.Book.{Content}
 use Rattle.formula_trees.specs.Expr.{expr_of}
 use Rattle.shared_expressions.specs.Trees.{KeepsTrees}
 use Rattle.workbook_core.specs.Copies.{AreCopies}
-use Rattle.workbook_core.proofs.copies.shifted_copies.Given as goal
+use Rattle.workbook_core.proofs.copies.formula_copies.Given as goal
 
 abbrev pub invariant-loop-at : goal.invariant-loop-at
 invariant-loop-at l = record {
