@@ -54,7 +54,14 @@ if_counted true false s = Err FaultKind.ArgumentCount
 abbrev pub sign_of : Op → Option Sign
 sign_of Op.Add = Some Sign.Plus
 sign_of Op.Sub = Some Sign.Minus
-sign_of _ = None
+sign_of Op.Mul = None
+sign_of Op.Div = None
+sign_of Op.Eq = None
+sign_of Op.Ne = None
+sign_of Op.Lt = None
+sign_of Op.Le = None
+sign_of Op.Gt = None
+sign_of Op.Ge = None
 
 abbrev pub on_sign : Option Sign → ℕ → List Frame → Move
 on_sign (Some sign) s fs = Ok (operand (suc s) fs)
