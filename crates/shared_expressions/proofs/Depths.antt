@@ -1,5 +1,5 @@
 -- A tree is no deeper than it has nodes.
-use Rattle.std.proofs.Common.{ℕ, ◌+◌, ◌≤◌, max, arith}
+use Rattle.std.proofs.Common.{◌≤◌, arith}
 use Rattle.formula_trees.specs.Expr.{Expr, Exprs, Number, Text, Truth, Ref, Range, RefError, Unary, Binary, Call, End, More}
 use Rattle.formula_trees.specs.Sound.{nodes, nodes_of}
 use Rattle.shared_expressions.specs.Trees.{depth, depth_all}
