@@ -58,12 +58,7 @@ fn pick(area: Option<Area>, k: u32) -> Result<Area, u32>
 
 /// Appends the areas of a node, from left to right. After an `Err` some of them stand there.
 #[cycle(areas)]
-pub fn push_areas(
-    store: &Store,
-    id: usize,
-    at: Addr,
-    out: &mut Vec<Area>,
-) -> Result<(), AllocError>
+pub fn push_areas(store: &Store, id: usize, at: Addr, out: &mut Vec<Area>) -> Result<(), AllocError>
     requires { IsStore store.now }
     ensures items { OnOk result (out.new.items ≡ out.old.items ++ areas at (expr_at (trees store.now) id)) }
     ensures within { OnOk result (All IsArea out.old.items → All IsArea out.new.items) }

@@ -1,11 +1,9 @@
 -- The support of a book: what reads a cell is what mentions it, and what an edit leaves pending.
-use Rattle.std.proofs.Common.{◌≡◌, ◌+◌, ◌-◌, Bool, true, false, ◌||◌, ◌⊎◌, inl, inr, ⊎_elim, List, [], ◌∷◌, ◌++◌, flat_map, refl, sym, ap, ◌∙◌, subst, arith, Option, Some, None, IsSome, IsSomeAnd}
+use Rattle.std.proofs.Common.{◌≡◌, Bool, true, false, ◌||◌, ◌⊎◌, inl, inr, ⊎_elim, List, [], ◌∷◌, ◌++◌, flat_map, refl, sym, ap, ◌∙◌, subst, Option, Some, None, IsSome, IsSomeAnd}
 use Rattle.std.specs.Prelude.{◌↔◌, option_map}
-use Rattle.std.specs.List.{list_any}
 use Rattle.cell_values.specs.declared.address.Addr.{Addr}
 use Rattle.cell_values.specs.declared.address.Area.{Area}
-use Rattle.cell_values.specs.Addresses.{same_addr}
-use Rattle.cell_values.specs.Areas.{height, width, cell_of, walk, is_inside}
+use Rattle.cell_values.specs.Areas.{walk, is_inside}
 use Rattle.formula_trees.specs.Expr.{Expr}
 use Rattle.formula_trees.specs.Mentions.{areas}
 use Rattle.shared_expressions.proofs.Named.{mentions_are_areas}
@@ -17,7 +15,6 @@ use Rattle.demand_spec.proofs.Members.{walked_inside, inside_walked}
 use Rattle.demand_spec.proofs.Walks.{in_either, in_left, in_right}
 use Rattle.support_graph.specs.Support.{CellAreas, hold, IsCell, Reads, IsSupportOf}
 use Rattle.support_graph.specs.Pending.{Reached, start, step, IsPendingAfter, StayClosed}
-use Rattle.support_graph.proofs.Readers.{inside, from_inside}
 use Rattle.support_graph.proofs.Truths.{or_right}
 
 -- the cells that areas hold are those of their walks

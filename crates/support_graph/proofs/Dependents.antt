@@ -1,15 +1,14 @@
 -- The dependents of a cell as a list in order.
-use Rattle.std.proofs.Common.{◌≡◌, Bool, true, false, cond, ◌⊎◌, inl, inr, ⊎_elim, List, [], ◌∷◌, refl, sym, ◌∙◌, subst, Some, IsSomeAnd}
+use Rattle.std.proofs.Common.{◌≡◌, Bool, true, false, cond, ◌⊎◌, inl, inr, ⊎_elim, [], ◌∷◌, refl, sym, ◌∙◌, subst, Some, IsSomeAnd}
 use Rattle.std.specs.List.{filter}
 use Rattle.cell_values.specs.declared.address.Addr.{Addr}
-use Rattle.cell_values.specs.declared.address.Area.{Area}
 use Rattle.cell_values.specs.Addresses.{same_addr, IsBefore}
 use Rattle.cell_values.specs.Order.{IsBeforeAll, InOrder, addresses, entry_at}
-use Rattle.cell_values.proofs.Order.{same_addr-true, same_addr-refl, never_before, before_apart}
+use Rattle.cell_values.proofs.Order.{same_addr-true, same_addr-refl, never_before}
 use Rattle.demand_spec.specs.Laws.{In}
 use Rattle.demand_spec.proofs.OneList.{before_member, one_list}
 use Rattle.support_graph.specs.declared.search.Search.{Search}
-use Rattle.support_graph.specs.Support.{CellAreas, hold, dependents_of, IsCell, Reads}
+use Rattle.support_graph.specs.Support.{CellAreas, hold, dependents_of, Reads}
 use Rattle.support_graph.specs.Steps.{Visits}
 
 -- the dependents are in order

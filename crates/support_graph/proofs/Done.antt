@@ -1,8 +1,7 @@
 -- Blocks that were visited before.
-use Rattle.std.proofs.Common.{◌≡◌, Bool, true, false, cond, not, inl, inr, List, is_eq, refl, sym, ◌∙◌, subst, arith}
+use Rattle.std.proofs.Common.{◌≡◌, Bool, true, false, cond, not, List, is_eq, refl, sym, ◌∙◌, subst, arith}
 use Rattle.std.specs.List.{list_any}
 use Rattle.cell_values.specs.declared.address.Addr.{Addr}
-use Rattle.demand_spec.specs.Laws.{In}
 use Rattle.support_graph.specs.declared.block.Block.{Block}
 use Rattle.support_graph.specs.declared.block.Key.{Key}
 use Rattle.support_graph.specs.declared.search.Search.{Search}

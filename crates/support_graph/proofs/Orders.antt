@@ -1,5 +1,5 @@
 -- The orders of blocks and keys, against the tests that read their parts.
-use Rattle.std.proofs.Common.{◌≡◌, true, ◌&&◌, eqb, nat_cmp, is_eq, Ordering, refl, ◌∙◌, arith}
+use Rattle.std.proofs.Common.{◌≡◌, true, ◌&&◌, eqb, nat_cmp, is_eq, Ordering, ◌∙◌, arith}
 use Rattle.std.specs.Ordering.{ordering_then}
 use Rattle.cell_values.specs.Addresses.{same_addr}
 use Rattle.cell_values.proofs.Order.{cmp, is_eq-then, is_eq-nat_cmp, same_cmp, same_addr-true}

@@ -11,7 +11,7 @@ use Rattle.cell_values.specs.declared.address.Area.{Area}
 use Rattle.cell_values.specs.Addresses.{same_addr}
 use Rattle.cell_values.specs.Areas.{is_inside}
 use Rattle.cell_values.proofs.Order.{cmp, same_addr-true, same_addr-refl}
-use Rattle.cell_values.specs.Order.{addresses, entry_at}
+use Rattle.cell_values.specs.Order.{entry_at}
 use Rattle.demand_spec.specs.Laws.{In}
 use Rattle.support_graph.specs.declared.search.Search.{Search}
 use Rattle.support_graph.specs.Support.{listed, IsCell}

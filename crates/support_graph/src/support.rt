@@ -123,7 +123,11 @@ impl Support {
     }
 
     /// Visits the cells with an area that meets another area.
-    pub(crate) fn visit_readers(&self, changed: Area, search: &mut Search<'_>) -> Result<(), AllocError>
+    pub(crate) fn visit_readers(
+        &self,
+        changed: Area,
+        search: &mut Search<'_>,
+    ) -> Result<(), AllocError>
         requires { IsArea changed }
         ensures { OnOk result (Visits (ReadsArea self.now changed 257) search.old search.new) }
     {
@@ -142,7 +146,11 @@ impl Support {
     }
 
     /// Visits the cells of an area.
-    pub(crate) fn visit_cells(&self, changed: Area, search: &mut Search<'_>) -> Result<(), AllocError>
+    pub(crate) fn visit_cells(
+        &self,
+        changed: Area,
+        search: &mut Search<'_>,
+    ) -> Result<(), AllocError>
         requires { IsArea changed }
         ensures { OnOk result (Visits (λ c. IsCell self.now c × (is_inside changed c ≡ true)) search.old search.new) }
     {

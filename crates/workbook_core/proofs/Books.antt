@@ -1,5 +1,5 @@
 -- A book in which cells are copied.
-use Rattle.std.proofs.Common.{◌≡◌, ℕ, ◌+◌, ◌≤◌, ◌<◌, cond, not, ◌&&◌, ◌||◌, Bool, true, false, List, [], ◌∷◌, Option, Some, None, Result, Ok, Err, OnOk, OnErr, option_map, is_some, IsSome, length, refl, sym, ap, subst, ◌∙◌, arith}
+use Rattle.std.proofs.Common.{◌≡◌, ℕ, ◌+◌, ◌≤◌, ◌<◌, cond, not, ◌&&◌, ◌||◌, Bool, true, false, List, [], ◌∷◌, Some, None, Result, Ok, Err, OnOk, OnErr, option_map, is_some, IsSome, length, refl, sym, ap, subst, ◌∙◌, arith}
 use Rattle.std.specs.List.{list_any, AllByRecursion, IsDistinct}
 use Rattle.std.proofs.lemmas.Map.Keys.{IsDistinct-head, IsDistinct-tail, IsDistinct-cons}
 use Rattle.cell_values.specs.declared.TheConstants.{MAX_BOOK_CELLS}
@@ -8,7 +8,7 @@ use Rattle.cell_values.specs.declared.address.Area.{Area}
 use Rattle.cell_values.specs.Addresses.{same_addr, IsOnSheet}
 use Rattle.cell_values.specs.Areas.{walk, is_inside, IsArea}
 use Rattle.cell_values.specs.Texts.{Texts}
-use Rattle.cell_values.specs.Order.{addresses, entry_at}
+use Rattle.cell_values.specs.Order.{entry_at}
 use Rattle.formula_trees.specs.Shifted.{shifted}
 use Rattle.formula_trees.proofs.Shifts.{shifted_texts, shifted_sheets}
 use Rattle.demand_spec.specs.Book.{Content}

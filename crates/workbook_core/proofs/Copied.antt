@@ -1,5 +1,5 @@
 -- Many cells changed at once.
-use Rattle.std.proofs.Common.{◌≡◌, ℕ, inl, inr, zero, suc, ◌+◌, ◌≤◌, ◌<◌, cond, not, ◌||◌, ◌&&◌, Bool, true, false, List, [], ◌∷◌, ◌++◌, Option, Some, None, is_some, IsSome, length, take, drop, get_or, drop-cons, take-append-drop, refl, sym, ap, subst, ◌∙◌, arith}
+use Rattle.std.proofs.Common.{◌≡◌, ℕ, zero, suc, ◌+◌, ◌≤◌, ◌<◌, cond, not, ◌||◌, ◌&&◌, Bool, true, false, List, [], ◌∷◌, ◌++◌, Option, Some, None, is_some, IsSome, length, take, drop, get_or, drop-cons, take-append-drop, refl, sym, ap, subst, ◌∙◌, arith}
 use Rattle.std.specs.Map.{keys_of}
 use Rattle.std.proofs.lemmas.List.{take_more}
 use Rattle.cell_values.specs.declared.address.Addr.{Addr}
@@ -17,7 +17,7 @@ use Rattle.shared_expressions.specs.declared.nodes.ExprId.{ExprId}
 use Rattle.shared_expressions.specs.Trees.{Trees, tree_at, KeepsTrees, StandsFor}
 use Rattle.workbook_core.specs.declared.Content.{Content as Held}
 use Rattle.workbook_core.specs.Copies.{among, empty_among, written, SetsAll, Writes, IsCopy, AreCopies, CopiesTo, IsPlain}
-use Rattle.workbook_core.specs.Held.{content_in, cells_in, SetsHeld}
+use Rattle.workbook_core.specs.Held.{content_in, SetsHeld}
 use Rattle.workbook_core.proofs.Counting.{any_append}
 use Rattle.workbook_core.proofs.Growth.{held_stays, content_same}
 

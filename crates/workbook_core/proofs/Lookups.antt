@@ -1,7 +1,6 @@
 -- Cells in ordered maps, read by address.
-use Rattle.std.proofs.Common.{◌≡◌, ◌+◌, cond, ◌&&◌, ◌||◌, List, [], ◌∷◌, eqb, is_eq, Less, Bool, true, false, Option, Some, None, option_map, is_some, length, refl, sym, ap, subst, ◌∙◌, suc, arith}
+use Rattle.std.proofs.Common.{◌≡◌, ◌+◌, cond, ◌&&◌, ◌||◌, List, [], ◌∷◌, eqb, is_eq, Bool, true, false, Option, Some, None, option_map, is_some, length, refl, sym, ap, subst, ◌∙◌, suc}
 use Rattle.std.specs.List.{list_any}
-use Rattle.std.specs.Map.{lookup, keys_of}
 use Rattle.std.specs.BTreeMap.{BTreeMap, IsOrdered}
 use Rattle.std.specs.BTreeMap as tree
 use Rattle.std.specs.BTreeSet.{BTreeSet}

@@ -11,7 +11,7 @@ use Rattle.shared_expressions.specs.Trees.{Trees}
 use Rattle.workbook_core.specs.declared.Content.{Content as Held}
 use Rattle.workbook_core.specs.declared.edits.EditFault.{EditFault}
 use Rattle.demand_spec.specs.Edits.{copied}
-use Rattle.workbook_core.specs.Held.{content_in, cells_in, IsHeldOf}
+use Rattle.workbook_core.specs.Held.{content_in, IsHeldOf}
 
 -- the address is one of these
 abbrev pub among : List Addr → Addr → Bool

@@ -1,5 +1,5 @@
 -- What the code holds of cells, and what stands there.
-use Rattle.std.specs.Prelude.{◌≡◌, ◌<◌, Bool, true, false, Option, Some, None, is_some, cond, ◌&&◌, ◌==◌, List, [], ◌∷◌, length}
+use Rattle.std.specs.Prelude.{◌≡◌, ◌<◌, Bool, true, false, Option, Some, is_some, cond, ◌&&◌, ◌==◌, List, [], ◌∷◌, length}
 use Rattle.std.specs.List.{list_any}
 use Rattle.cell_values.specs.declared.address.Addr.{Addr}
 use Rattle.cell_values.specs.Addresses.{same_addr, IsOnSheet}

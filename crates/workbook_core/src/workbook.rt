@@ -20,9 +20,7 @@ ghost use Rattle.workbook_core.specs.Held.{content_in, holds_formula, IsHeldOf, 
 use crate::cells::CellMap;
 use crate::copies::{addresses_of, copy_cells};
 use crate::{Content, EditFault};
-use cell_values::{
-    Addr, Area, FieldText, MAX_BOOK_CELLS, MAX_RANGE_CELLS, Raw, SheetNames, Texts,
-};
+use cell_values::{Addr, Area, FieldText, MAX_BOOK_CELLS, MAX_RANGE_CELLS, Raw, SheetNames, Texts};
 use demand_spec::BookView;
 use formula_grammar::{FormulaFault, read_formula};
 use shared_expressions::Pool;

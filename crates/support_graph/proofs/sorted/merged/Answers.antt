@@ -1,4 +1,4 @@
-use Rattle.std.proofs.Common.{ℕ, zero, suc, ◌<◌, ◌≤◌, ◌+◌, ◌∙◌, ◌≡◌, ◌⊎◌, inl, inr, ◌++◌, [], ◌∷◌, List, Bool, true, false, length, drop, get_or, refl, sym, subst, arith, ap}
+use Rattle.std.proofs.Common.{ℕ, zero, suc, ◌<◌, ◌≤◌, ◌∙◌, ◌≡◌, ◌⊎◌, inl, inr, ◌++◌, [], ◌∷◌, List, Bool, true, false, length, drop, get_or, refl, sym, subst, arith, ap}
 use Rattle.std.specs.Prelude.{◌↔◌}
 use Rattle.std.proofs.lemmas.Grind.{common_steps}
 use Rattle.cell_values.specs.declared.address.Addr.{Addr}

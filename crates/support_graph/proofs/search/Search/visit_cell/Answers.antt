@@ -1,4 +1,4 @@
-use Rattle.std.proofs.Common.{◌≡◌, ◌∙◌, sym, subst, true, false}
+use Rattle.std.proofs.Common.{◌≡◌, ◌∙◌, sym, subst}
 use Rattle.support_graph.specs.Support.{IsCell}
 use Rattle.support_graph.proofs.Readers.{on_ok}
 use Rattle.support_graph.proofs.Truths.{true_false}

@@ -3,7 +3,6 @@ use Rattle.std.specs.Map.{keys_of}
 use Rattle.cell_values.specs.declared.address.Addr.{Addr}
 use Rattle.cell_values.specs.Order.{addresses}
 use Rattle.cell_values.proofs.Order.{addresses_are_keys}
-use Rattle.support_graph.specs.Support.{CellAreas}
 use Rattle.support_graph.proofs.Cells.{addresses_listed}
 use Rattle.support_graph.proofs.support.Support.cells.Goals as goal
 

@@ -1,9 +1,8 @@
-use Rattle.std.proofs.Common.{◌≡◌, [], true, IsSome, length, drop}
+use Rattle.std.proofs.Common.{◌≡◌, true, IsSome, length, drop}
 use Rattle.std.specs.Map.{keys_of}
 use Rattle.cell_values.specs.declared.address.Addr.{Addr}
 use Rattle.cell_values.specs.Order.{InOrder, addresses, entry_at}
 use Rattle.workbook_core.specs.Copies.{among, written}
-use Rattle.workbook_core.specs.Held.{cells_in}
 use Rattle.workbook_core.proofs.cells.CellMap.replace_all.Given as goal
 
 abbrev pub invariant-loop-at : goal.invariant-loop-at

@@ -1,4 +1,4 @@
-use Rattle.std.proofs.Common.{◌≡◌, ◌<◌, [], None, IfErr, OnOk, length, subst, sym, ap, ◌∙◌, arith}
+use Rattle.std.proofs.Common.{◌≡◌, ◌<◌, None, IfErr, OnOk, length, subst, sym, ap, ◌∙◌, arith}
 use Rattle.std.proofs.lemmas.Result.{on_ok_weaker, on_err_weaker, IfErr-weaker, MatchResult-from_both}
 use Rattle.cell_values.specs.Areas.{walk}
 use Rattle.workbook_core.specs.Copies.{SetsAll, CopiesTo, HasNoRoom}
