@@ -3,6 +3,7 @@ ghost use Rattle.cell_values.specs.Addresses.{IsOnSheet};
 
 use super::*;
 use cell_values::{Addr, Area, Raw, SheetNames, Texts};
+use formula_grammar::FaultKind;
 use formula_trees::Tree;
 use std::alloc::Global;
 use std::test::Fail;
@@ -55,7 +56,7 @@ fn reads_and_puts_fields(rt: HostRuntime) -> Result<(), Fail> {
     assert!(rt; matches!(raw, Raw::Number(5)));
     let fault = Err(EditFault::BadFormula {
         place: 3,
-        number: 2,
+        kind: FaultKind::Misplaced,
     });
     assert_eq!(rt; put(alloc, &mut book, cell(0, 1, 1), "=1+"), fault);
     assert_eq!(rt; book.count(), 0);
@@ -141,7 +142,7 @@ fn keeps_the_limit(rt: HostRuntime) -> Result<(), Fail> {
     );
     let fault = Err(EditFault::BadFormula {
         place: 3,
-        number: 2,
+        kind: FaultKind::Misplaced,
     });
     assert_eq!(rt; put(alloc, &mut book, cell(1, 1, 1), "=1+"), fault);
     assert_eq!(rt; put(alloc, &mut book, cell(0, 1, 1), "6"), Ok(()));
