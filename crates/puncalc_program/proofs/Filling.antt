@@ -51,7 +51,7 @@ fills_start ts cells b e t h few = record {
   after = subst (AllAfter cells) (sym e) (none_after cells);
   in_order = h.in_order;
   fit = subst (λ us. CellsFit us cells) (sym t) h.fit;
-  few = subst (λ cs. length cs + length cells ≤ MAX_BOOK_CELLS) (sym e) few;
+  few = omega (arith, few, ap length e);
 }
 
 -- one cell more at the most
