@@ -14,7 +14,8 @@ loop-at-init c =
     fills_start c.read_sheet.new.texts c.deref-at-items.result.now _ c.new.ensures refl
     (subst (λ (cs : List (Addr × Raw)). AreSheetCells c.read_sheet.new.texts cs) (sym c.deref-at-items.ensures.value)
     (sheet_cells c.args.bytes.now c.read_sheet.new.texts c.in_ok-cells.cells.items c.in_ok-cells.ensures.no_fault (c.in_ok-cells.ensures.cells ∙ ap (λ ts. cells_of 0 ts (sheet_fields c.args.bytes.now)) c.new-texts.ensures)))
-    (subst (λ (cs : List (Addr × Raw)). length cs ≤ MAX_BOOK_CELLS) (sym c.deref-at-items.ensures.value) c.in_ok-cells.ensures.within)
+    (subst (λ (cs : List (Addr × Raw)). length cs ≤ MAX_BOOK_CELLS) (sym c.deref-at-items.ensures.value)
+    (subst (λ n. n ≤ MAX_BOOK_CELLS) c.in_ok-cells.cells.ok.0 c.in_ok-cells.ensures.within))
 
 pub add-requires-clause-room : goal.add-requires-clause-room
 add-requires-clause-room c =
