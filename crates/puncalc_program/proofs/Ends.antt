@@ -10,7 +10,7 @@ use Rattle.puncalc_program.specs.declared.stop.Stop.{Stop}
 use Rattle.formula_grammar.specs.Reading.{Reading, IsReading}
 use Rattle.puncalc_program.specs.Loading.{loaded, the_names}
 use Rattle.puncalc_program.specs.Output.{Output, output, sheet_output, refusal, shown_or_refused, are_accepted}
-use Rattle.puncalc_program.specs.Run.{WritesPart, RunEnds, Answers, IsFinal}
+use Rattle.puncalc_program.specs.Run.{WritesPart, RunEnds, Answers, IsFinal, IsStatus}
 
 -- the whole is a part
 pub whole_part : (bytes : List ℕ) (before now : Option (List ℕ)) → now ≡ appended before bytes → WritesPart bytes before now
@@ -24,11 +24,21 @@ nothing_part bytes before now e = (0, e ∙ sym (added_nothing before))
     added_nothing None = refl
     added_nothing (Some bs) = ap Some (append-nil bs)
 
+-- the statuses of a run that stopped are no final ones
+not_final : (status : ℕ) → 5 ≤ status → IsFinal status → ⊥
+not_final status l (inl e) = omega (arith, e)
+not_final status l (inr (inl e)) = omega (arith, e)
+not_final status l (inr (inr e)) = omega (arith, e)
+
+pub final_status : (status : ℕ) → IsFinal status → IsStatus status
+final_status status (inl e) = inl e
+final_status status (inr (inl e)) = inr (inl e)
+final_status status (inr (inr e)) = inr (inr (inl e))
+
 pub ends_ok : (due : Output) (status : ℕ) (before now : Option (List ℕ)) → IsFinal status → Answers due before now (Ok status) → RunEnds due status before now
 ends_ok due status before now low h = record {
-  known = inl low;
   final = λ _. h;
-  nothing = λ five. absurd (omega arith);
+  nothing = λ five. absurd (not_final status (omega (arith, five)) low);
   part = whole_part (concat due.pieces) before now h.1;
 }
 
@@ -47,20 +57,17 @@ stopped Stop.Memory = 7
 
 ends_stopped : (due : Output) (stop : Stop) (before now : Option (List ℕ)) → Answers due before now (Err stop) → RunEnds due (stopped stop) before now
 ends_stopped due Stop.Read before now h = record {
-  known = inr (inl refl);
-  final = λ low. absurd (omega arith);
+  final = λ low. absurd (not_final 5 (omega arith) low);
   nothing = λ _. h;
   part = nothing_part (concat due.pieces) before now h;
 }
 ends_stopped due Stop.Write before now h = record {
-  known = inr (inr (inl refl));
-  final = λ low. absurd (omega arith);
+  final = λ low. absurd (not_final 6 (omega arith) low);
   nothing = λ five. absurd (omega arith);
   part = h;
 }
 ends_stopped due Stop.Memory before now h = record {
-  known = inr (inr (inr refl));
-  final = λ low. absurd (omega arith);
+  final = λ low. absurd (not_final 7 (omega arith) low);
   nothing = λ five. absurd (omega arith);
   part = h;
 }

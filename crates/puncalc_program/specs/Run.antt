@@ -12,12 +12,15 @@ WritesPart bytes before now = (n : ℕ) × (now ≡ appended before (take n byte
 
 -- the statuses of a run that came to its end; one that had to stop has 5, 6 or 7
 abbrev pub IsFinal : ℕ → Type 0
-IsFinal status = status ≤ 4
+IsFinal status = (status ≡ 0) ⊎ (status ≡ 2) ⊎ (status ≡ 3)
+
+-- the statuses of all runs
+abbrev pub IsStatus : ℕ → Type 0
+IsStatus status = (status ≡ 0) ⊎ (status ≡ 2) ⊎ (status ≡ 3) ⊎ (status ≡ 5) ⊎ (status ≡ 6) ⊎ (status ≡ 7)
 
 -- a run with this status wrote what is due: all of it with the status that is due, nothing where the input could not
 -- be read, a first part where a write failed or there was no memory
 pub record RunEnds (due : Output) (status : ℕ) (before now : Option (List ℕ)) : Type 0 where
-  pub known : IsFinal status ⊎ (status ≡ 5) ⊎ (status ≡ 6) ⊎ (status ≡ 7)
   pub final : IsFinal status → (status ≡ due.status) × (now ≡ appended before (concat due.pieces))
   pub nothing : status ≡ 5 → now ≡ before
   pub part : WritesPart (concat due.pieces) before now
@@ -34,6 +37,13 @@ abbrev pub StopsFor : (ℕ × ℕ) → (ℕ × ℕ) → Result ℕ Stop → Type
 StopsFor input out (Err Stop.Read) = HasRisen input.0 input.1
 StopsFor input out (Err Stop.Write) = HasRisen out.0 out.1
 StopsFor input out _ = Unit {0}
+
+-- it did not stop for its input
+abbrev pub NeverReads : {A : Type 0} → Result A Stop → Type 0
+NeverReads (Ok _) = Unit {0}
+NeverReads (Err Stop.Read) = ⊥
+NeverReads (Err Stop.Write) = Unit {0}
+NeverReads (Err Stop.Memory) = Unit {0}
 
 -- the same where nothing is read
 abbrev pub StopsWritingFor : {A : Type 0} → (ℕ × ℕ) → Result A Stop → Type 0

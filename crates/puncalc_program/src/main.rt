@@ -18,8 +18,12 @@ use std::{env, io};
 
 fn main(rt: HostRuntime) -> ExitCode {
     let alloc = rt.alloc();
-    // Words that cannot be read, since one is no UTF-8, are no accepted words.
-    let words = words(&rt).unwrap_or(Vec::new(alloc));
+    let words = match words(&rt) {
+        Ok(words) => words,
+        Err(error) if error.kind() == io::ErrorKind::OutOfMemory => return ExitCode::from(7),
+        // A word that is no UTF-8 is none that is accepted.
+        Err(_) => Vec::new(alloc),
+    };
     let mut input = StdSource::new(rt.stdin());
     let mut out = StdSink::new(rt.stdout());
     ExitCode::from(run::run(alloc, &words, &mut input, &mut out))

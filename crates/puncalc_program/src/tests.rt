@@ -152,16 +152,65 @@ fn meets_the_limits_of_a_sheet(rt: HostRuntime) -> Result<(), Fail> {
     Ok(())
 }
 
-#[test]
-fn refuses_other_words(rt: HostRuntime) -> Result<(), Fail> {
-    let lists: [&[&str]; 5] = [&[], &["frob"], &["Show"], &["show", "show"], &["show "]];
-    for words in lists {
-        let words = words_of(rt.alloc(), words)?;
-        let mut input = PlainSource::new(Vec::from_slice(rt.alloc(), b"1\n")?);
-        let mut out = PlainSink::new(rt.alloc(), ROOM)?;
-        assert_eq!(rt; run(rt.alloc(), &words, &mut input, &mut out), 2);
-        assert_eq!(rt; out.written(), b"refused words\n".as_slice());
+/// Words that are refused, a line each.
+const REFUSED: &str = "
+    frob
+    Show
+    show show
+    show x
+    show --workers
+    show --workers 0
+    show --workers 04
+    show --workers 65
+    show --workers 2 --workers 2
+    show --help
+    edit a.csv
+    trace
+    demo 4
+    --help
+";
+
+/// Words that are accepted, a line each.
+const ACCEPTED: &str = "
+    show
+    show --
+    show --workers 1
+    show --workers=64
+    show --workers 64 --
+";
+
+/// What the program makes of the words of each line of a table: the same status and output each time.
+fn expect_each(
+    rt: &impl Abort,
+    alloc: Global,
+    table: &str,
+    want: (u8, &[u8]),
+) -> Result<(), AllocError> {
+    for line in table.lines() {
+        let line = line.trim_start();
+        if line.is_empty() {
+            continue;
+        }
+        let mut words = Vec::new(alloc);
+        for word in line.split(' ') {
+            words.push(String::from_str(alloc, word)?)?;
+        }
+        let mut input = PlainSource::new(Vec::from_slice(alloc, b"=-7/2\n")?);
+        let mut out = PlainSink::new(alloc, ROOM)?;
+        let status = run(alloc, &words, &mut input, &mut out);
+        assert_eq!(rt; (status, out.written()), want, "{line}");
     }
+    Ok(())
+}
+
+#[test]
+fn accepts_the_words_of_show(rt: HostRuntime) -> Result<(), Fail> {
+    let alloc = rt.alloc();
+    expect_each(&rt, alloc, ACCEPTED, (0, b"-3\n"))?;
+    expect_each(&rt, alloc, REFUSED, (2, b"refused words\n"))?;
+    let mut input = PlainSource::new(Vec::from_slice(alloc, b"1\n")?);
+    let mut out = PlainSink::new(alloc, ROOM)?;
+    assert_eq!(rt; run(alloc, &Vec::new(alloc), &mut input, &mut out), 2);
     Ok(())
 }
 
