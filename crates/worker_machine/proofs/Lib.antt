@@ -1,0 +1,16 @@
+pub mod Coding
+pub mod Places
+pub mod Numbers
+pub mod Why
+pub mod Settle
+pub mod Shows
+pub mod Closing
+pub mod Knowing
+pub mod Changing
+pub mod Stepping
+pub mod Ending
+pub mod Bound
+pub mod Writing
+pub mod Room
+pub mod Working
+pub mod TwoCellsRun
