@@ -11,9 +11,10 @@ use Rattle.cell_values.specs.Areas.{IsArea}
 use Rattle.cell_values.proofs.Order.{cmp, same_cmp, same_addr-true, entries_in_order}
 use Rattle.cell_values.specs.Order.{InOrder, addresses, entry_at}
 use Rattle.support_graph.specs.declared.block.Key.{Key}
-use Rattle.support_graph.specs.Blocks.{is_block_in, has_key}
-use Rattle.support_graph.specs.Support.{CellAreas, is_read, listed, IsIndexed}
-use Rattle.support_graph.specs.Steps.{Sets, is_cell_key}
+use Rattle.support_graph.specs.declared.block.Reader.{Reader}
+use Rattle.support_graph.specs.Blocks.{has_reader}
+use Rattle.support_graph.specs.Support.{CellAreas, is_area_in, is_area_of, listed, AreCut, IsIndexed}
+use Rattle.support_graph.specs.Steps.{SetsReaders, is_cell_reader}
 
 abbrev pub Entries : Type 0
 Entries = List (Addr × Vec Area)
@@ -55,41 +56,45 @@ pub order_listed : (es : Entries) → IsStrictlySortedBy cmp (keys_of es) → In
 order_listed es h = subst InOrder (addresses_listed es) (entries_in_order es h)
 
 -- the index follows where a cell was put in with areas
-pub indexed_put : (s t : CellAreas) (x y : List Key) (cell : Addr) (areas : List Area) → entry_at s cell ≡ None → IsIndexed s x → All IsArea areas → InOrder (addresses t) → ((q : Addr) → entry_at t q ≡ cond (same_addr cell q) (Some areas) (entry_at s q)) → Sets (is_cell_key cell areas) true true x y → IsIndexed t y
-indexed_put s t x y cell areas absent old good order h sets = record {
+pub indexed_put : (s t : CellAreas) (old new : List Key) (x y : List Reader) (cell : Addr) (areas : List Area) → entry_at s cell ≡ None → IsIndexed s old x → All IsArea areas → InOrder (addresses t) → ((q : Addr) → entry_at t q ≡ cond (same_addr cell q) (Some areas) (entry_at s q))
+    → SetsReaders (is_cell_reader cell areas) true true x y → AreCut new y → IsIndexed t new y
+indexed_put s t old new x y cell areas absent indexed good order h sets cut = record {
   in_order = order;
   areas = λ q. subst (λ (o : Option (List Area)). IfSome o (All IsArea)) (sym (h q)) (each q (same_addr cell q));
-  index = λ k. at k (same_addr cell k.cell) refl;
+  reads = λ k. at k (same_addr cell k.cell) refl;
+  cut = cut;
 }
   where
     each : (q : Addr) (b : Bool) → IfSome (cond b (Some areas) (entry_at s q)) (All IsArea)
     each q true = good
-    each q false = old.areas q
+    each q false = indexed.areas q
 
-    there : (k : Key) → same_addr cell k.cell ≡ true → (b : Bool) → is_block_in areas k.block ≡ b → has_key y k ≡ b
+    there : (k : Reader) → same_addr cell k.cell ≡ true → (b : Bool) → is_area_in areas k.area ≡ b → has_reader y k ≡ b
     there k e true f = sets.done refl k (λ i. e i && f i)
-    there k e false f = sets.others k (λ i. e i && f i) ∙ old.index k ∙ (λ i. is_read (entry_at s (sym (same_addr-true cell k.cell e) i)) k.block) ∙ (λ i. is_read (absent i) k.block)
+    there k e false f = sets.others k (λ i. e i && f i) ∙ indexed.reads k ∙ (λ i. is_area_of (entry_at s (sym (same_addr-true cell k.cell e) i)) k.area) ∙ (λ i. is_area_of (absent i) k.area)
 
-    at : (k : Key) (b : Bool) → same_addr cell k.cell ≡ b → has_key y k ≡ is_read (entry_at t k.cell) k.block
-    at k true e = there k e (is_block_in areas k.block) refl ∙ sym ((λ i. is_read (h k.cell i) k.block) ∙ (λ i. is_read (cond (e i) (Some areas) (entry_at s k.cell)) k.block))
-    at k false e = sets.others k (λ i. e i && is_block_in areas k.block) ∙ old.index k ∙ sym ((λ i. is_read (h k.cell i) k.block) ∙ (λ i. is_read (cond (e i) (Some areas) (entry_at s k.cell)) k.block))
+    at : (k : Reader) (b : Bool) → same_addr cell k.cell ≡ b → has_reader y k ≡ is_area_of (entry_at t k.cell) k.area
+    at k true e = there k e (is_area_in areas k.area) refl ∙ sym ((λ i. is_area_of (h k.cell i) k.area) ∙ (λ i. is_area_of (cond (e i) (Some areas) (entry_at s k.cell)) k.area))
+    at k false e = sets.others k (λ i. e i && is_area_in areas k.area) ∙ indexed.reads k ∙ sym ((λ i. is_area_of (h k.cell i) k.area) ∙ (λ i. is_area_of (cond (e i) (Some areas) (entry_at s k.cell)) k.area))
 
 -- and where it was taken out
-pub indexed_take : (s t : CellAreas) (x y : List Key) (cell : Addr) (areas : List Area) → entry_at s cell ≡ Some areas → IsIndexed s x → InOrder (addresses t) → ((q : Addr) → entry_at t q ≡ cond (same_addr cell q) None (entry_at s q)) → Sets (is_cell_key cell areas) false true x y → IsIndexed t y
-indexed_take s t x y cell areas there old order h sets = record {
+pub indexed_take : (s t : CellAreas) (old new : List Key) (x y : List Reader) (cell : Addr) (areas : List Area) → entry_at s cell ≡ Some areas → IsIndexed s old x → InOrder (addresses t) → ((q : Addr) → entry_at t q ≡ cond (same_addr cell q) None (entry_at s q))
+    → SetsReaders (is_cell_reader cell areas) false true x y → AreCut new y → IsIndexed t new y
+indexed_take s t old new x y cell areas there indexed order h sets cut = record {
   in_order = order;
   areas = λ q. subst (λ (o : Option (List Area)). IfSome o (All IsArea)) (sym (h q)) (each q (same_addr cell q));
-  index = λ k. at k (same_addr cell k.cell) refl;
+  reads = λ k. at k (same_addr cell k.cell) refl;
+  cut = cut;
 }
   where
     each : (q : Addr) (b : Bool) → IfSome (cond b None (entry_at s q)) (All IsArea)
     each q true = tt
-    each q false = old.areas q
+    each q false = indexed.areas q
 
-    gone : (k : Key) → same_addr cell k.cell ≡ true → (b : Bool) → is_block_in areas k.block ≡ b → has_key y k ≡ false
+    gone : (k : Reader) → same_addr cell k.cell ≡ true → (b : Bool) → is_area_in areas k.area ≡ b → has_reader y k ≡ false
     gone k e true f = sets.done refl k (λ i. e i && f i)
-    gone k e false f = sets.others k (λ i. e i && f i) ∙ old.index k ∙ (λ i. is_read (entry_at s (sym (same_addr-true cell k.cell e) i)) k.block) ∙ (λ i. is_read (there i) k.block) ∙ f
+    gone k e false f = sets.others k (λ i. e i && f i) ∙ indexed.reads k ∙ (λ i. is_area_of (entry_at s (sym (same_addr-true cell k.cell e) i)) k.area) ∙ (λ i. is_area_of (there i) k.area) ∙ f
 
-    at : (k : Key) (b : Bool) → same_addr cell k.cell ≡ b → has_key y k ≡ is_read (entry_at t k.cell) k.block
-    at k true e = gone k e (is_block_in areas k.block) refl ∙ sym ((λ i. is_read (h k.cell i) k.block) ∙ (λ i. is_read (cond (e i) None (entry_at s k.cell)) k.block))
-    at k false e = sets.others k (λ i. e i && is_block_in areas k.block) ∙ old.index k ∙ sym ((λ i. is_read (h k.cell i) k.block) ∙ (λ i. is_read (cond (e i) None (entry_at s k.cell)) k.block))
+    at : (k : Reader) (b : Bool) → same_addr cell k.cell ≡ b → has_reader y k ≡ is_area_of (entry_at t k.cell) k.area
+    at k true e = gone k e (is_area_in areas k.area) refl ∙ sym ((λ i. is_area_of (h k.cell i) k.area) ∙ (λ i. is_area_of (cond (e i) None (entry_at s k.cell)) k.area))
+    at k false e = sets.others k (λ i. e i && is_area_in areas k.area) ∙ indexed.reads k ∙ sym ((λ i. is_area_of (h k.cell i) k.area) ∙ (λ i. is_area_of (cond (e i) None (entry_at s k.cell)) k.area))

@@ -1,7 +1,9 @@
 pub mod Truths
 pub mod Halving
 pub mod Orders
+pub mod Changes
 pub mod Keys
+pub mod Readings
 pub mod Cells
 pub mod Visits
 pub mod Ranges

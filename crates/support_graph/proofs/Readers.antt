@@ -7,12 +7,12 @@ use Rattle.cell_values.specs.declared.address.Area.{Area}
 use Rattle.cell_values.specs.Areas.{IsArea, is_inside}
 use Rattle.cell_values.specs.Order.{entry_at}
 use Rattle.support_graph.specs.declared.block.Key.{Key}
+use Rattle.support_graph.specs.declared.block.Reader.{Reader}
 use Rattle.support_graph.specs.declared.search.Search.{Search}
 use Rattle.support_graph.specs.Support.{CellAreas, hold, IsIndexed, Reads}
 use Rattle.support_graph.specs.Steps.{Visits, meets, ReadsRows, ReadsArea}
 use Rattle.support_graph.proofs.Visits.{visits_seen, visits_then, visits_as}
-use Rattle.support_graph.proofs.Columns.{one_passes, any_more}
-use Rattle.support_graph.proofs.Truths.{and_first, and_second, and_both, below_next}
+use Rattle.support_graph.proofs.Truths.{and_first, and_second, and_both, below_next, any_more, one_passes}
 
 -- what `is_inside` says
 pub record Inside (r : Area) (a : Addr) : Type 0 where
@@ -54,25 +54,25 @@ from_inside r a h =
     (and_both (nat_le r.left a.col) (nat_le a.col r.right) (from_le r.left a.col h.left) (from_le a.col r.right h.right))
 
 -- no area has a row behind the last one
-pub none_reads : (s : CellAreas) (keys : List Key) → IsIndexed s keys → (a : Addr) → 65536 < a.row → (x : Search) → Visits (λ c. Reads s c a) x x
-none_reads s keys indexed a h x = visits_seen (λ c. Reads s c a) x (λ c m. absurd (go c (entry_at s c) m (indexed.areas c)))
+pub none_reads : (s : CellAreas) (keys : List Key) (readers : List Reader) → IsIndexed s keys readers → (a : Addr) → 65536 < a.row → (x : Search) → Visits (λ c. Reads s c a) x x
+none_reads s keys readers indexed a h x = visits_seen (λ c. Reads s c a) x (λ c m. absurd (go c (entry_at s c) m (indexed.areas c)))
   where
     go : (c : Addr) (o : Option (List Area)) → IsSomeAnd o (λ areas. hold areas a ≡ true) → IfSome o (All IsArea) → ⊥
     go c None m good = elim m [ ]
-    go c (Some areas) m good = (let p = one_passes (λ r. is_inside r a) areas good m in let w = (inside p.0 a p.2).bottom in let b = p.1.bottom_to in omega (arith, w, b, h))
+    go c (Some areas) m good = (let p = one_passes IsArea (λ r. is_inside r a) areas good m in let w = (inside p.0 a p.2).bottom in let b = p.1.bottom_to in omega (arith, w, b, h))
 
 -- a cell of the column, in the first row that lies in both
 abbrev first_common : Area → ℕ → Area → Addr
 first_common changed n r = record { sheet = changed.sheet; row = max r.top changed.top; col = n }
 
 -- an area that meets the rows of a column has a cell in common with them
-common_cell : (s : CellAreas) (keys : List Key) → IsIndexed s keys → (changed : Area) → IsArea changed → (n : ℕ) → changed.left ≤ n → n ≤ changed.right → (c : Addr) → ReadsRows s changed.sheet n changed.top changed.bottom c → ReadsArea s changed (n + 1) c
-common_cell s keys indexed changed area n low high c m = go (entry_at s c) refl m (indexed.areas c)
+common_cell : (s : CellAreas) (keys : List Key) (readers : List Reader) → IsIndexed s keys readers → (changed : Area) → IsArea changed → (n : ℕ) → changed.left ≤ n → n ≤ changed.right → (c : Addr) → ReadsRows s changed.sheet n changed.top changed.bottom c → ReadsArea s changed (n + 1) c
+common_cell s keys readers indexed changed area n low high c m = go (entry_at s c) refl m (indexed.areas c)
   where
     go : (o : Option (List Area)) → entry_at s c ≡ o → IsSomeAnd o (λ areas. list_any (meets changed.sheet n changed.top changed.bottom) areas ≡ true) → IfSome o (All IsArea) → ReadsArea s changed (n + 1) c
     go None e m good = elim m [ ]
     go (Some areas) e m good =
-        let p = one_passes (meets changed.sheet n changed.top changed.bottom) areas good m in
+        let p = one_passes IsArea (meets changed.sheet n changed.top changed.bottom) areas good m in
         let r = p.0 in
         let place = r.sheet == changed.sheet in
         let tall = nat_le r.top changed.bottom && nat_le changed.top r.bottom in
@@ -112,14 +112,14 @@ pub no_readers : (s : CellAreas) (changed : Area) (x : Search) → Visits (Reads
 no_readers s changed x = visits_seen (ReadsArea s changed changed.left) x (λ c m. absurd (let l = (inside changed m.at m.inside).left in let b = m.before in omega (arith, l, b)))
 
 -- one more column
-pub column_readers : (s : CellAreas) (keys : List Key) → IsIndexed s keys → (changed : Area) → IsArea changed → (n : ℕ) → changed.left ≤ n → n ≤ changed.right → (x y z : Search) → Visits (ReadsArea s changed n) x y → Visits (ReadsRows s changed.sheet n changed.top changed.bottom) y z → Visits (ReadsArea s changed (n + 1)) x z
-column_readers s keys indexed changed area n low high x y z a b =
+pub column_readers : (s : CellAreas) (keys : List Key) (readers : List Reader) → IsIndexed s keys readers → (changed : Area) → IsArea changed → (n : ℕ) → changed.left ≤ n → n ≤ changed.right → (x y z : Search) → Visits (ReadsArea s changed n) x y → Visits (ReadsRows s changed.sheet n changed.top changed.bottom) y z → Visits (ReadsArea s changed (n + 1)) x z
+column_readers s keys readers indexed changed area n low high x y z a b =
     visits_as (λ c. ReadsArea s changed n c ⊎ ReadsRows s changed.sheet n changed.top changed.bottom c) (ReadsArea s changed (n + 1)) x z to from
     (visits_then (ReadsArea s changed n) (ReadsRows s changed.sheet n changed.top changed.bottom) x y z a b)
   where
     to : (c : Addr) → ReadsArea s changed n c ⊎ ReadsRows s changed.sheet n changed.top changed.bottom c → ReadsArea s changed (n + 1) c
     to c (inl m) = record { at = m.at; before = (let h = m.before in omega (arith, h)); inside = m.inside; reads = m.reads }
-    to c (inr m) = common_cell s keys indexed changed area n low high c m
+    to c (inr m) = common_cell s keys readers indexed changed area n low high c m
 
     rows : (a : Addr) → is_inside changed a ≡ true → (o : Option (List Area)) → IsSomeAnd o (λ areas. hold areas a ≡ true) → IsSomeAnd o (λ areas. list_any (meets changed.sheet a.col changed.top changed.bottom) areas ≡ true)
     rows a h None m = m

@@ -7,38 +7,52 @@ use Rattle.cell_values.specs.Addresses.{same_addr, IsBefore}
 use Rattle.cell_values.specs.Areas.{is_inside}
 use Rattle.demand_spec.specs.Laws.{In}
 use Rattle.support_graph.specs.declared.block.Block.{Block}
+use Rattle.support_graph.specs.declared.block.Corners.{Corners}
 use Rattle.support_graph.specs.declared.block.Key.{Key}
+use Rattle.support_graph.specs.declared.block.Reader.{Reader}
 use Rattle.support_graph.specs.declared.search.Search.{Search}
-use Rattle.support_graph.specs.Blocks.{halves, is_end, is_cut, is_block_of, is_block_in, same_block, same_key, has_key}
+use Rattle.support_graph.specs.Blocks.{halves, is_end, is_cut, is_block_of, same_block, area_between, same_corners, same_key, has_key, has_reader, reads_block}
 use Rattle.cell_values.specs.Order.{entry_at}
-use Rattle.support_graph.specs.Support.{CellAreas, is_read, IsCell, Reads}
+use Rattle.support_graph.specs.Support.{CellAreas, is_read, is_area_in, IsCell, Reads}
 use Rattle.support_graph.specs.Pending.{Reached}
 
--- the keys that pass the test were put in, or taken out, if all went well, and no other key was touched
-pub record Sets (test : Key → Bool) (present ok : Bool) (old new : List Key) : Type 0 where
-  pub others : (k : Key) → test k ≡ false → has_key new k ≡ has_key old k
-  pub done : ok ≡ true → (k : Key) → test k ≡ true → has_key new k ≡ present
+-- what passes the test was put in, or taken out, if all went well, and nothing else was touched
+pub record Changes {K : Type 0} (has : List K → K → Bool) (test : K → Bool) (present ok : Bool) (old new : List K) : Type 0 where
+  pub others : (k : K) → test k ≡ false → has new k ≡ has old k
+  pub done : ok ≡ true → (k : K) → test k ≡ true → has new k ≡ present
 
--- the key of a cell at a block of a level, if there is one
-abbrev pub is_end_key : Addr → Block → Option ℕ → Key → Bool
-is_end_key c b None k = false
-is_end_key c b (Some n) k = same_key (record { block = record b { number = n }; cell = c }) k
+-- of keys
+abbrev pub Sets : (Key → Bool) → Bool → Bool → List Key → List Key → Type 0
+Sets = Changes has_key
 
--- the keys of a cell at the ends of the blocks of a level from that of `b` up to and without `high`
-abbrev pub is_level_key : Addr → Block → ℕ → Key → Bool
-is_level_key c b high k = same_addr c k.cell && ((b.sheet == k.block.sheet) && ((b.col == k.block.col) && ((b.level == k.block.level) && is_end b.number high k.block.number)))
+-- of readers
+abbrev pub SetsReaders : (Reader → Bool) → Bool → Bool → List Reader → List Reader → Type 0
+SetsReaders = Changes has_reader
 
--- the keys of a cell at the blocks of an area, in one column, below a level
-abbrev pub is_column_key : Addr → Area → ℕ → ℕ → Key → Bool
-is_column_key c r col levels k = same_addr c k.cell && ((r.sheet == k.block.sheet) && ((col == k.block.col) && (nat_lt k.block.level levels && is_cut r.top r.bottom k.block.level k.block.number)))
+-- the key of an area at a block of a level, if there is one
+abbrev pub is_end_key : Corners → Block → Option ℕ → Key → Bool
+is_end_key a b None k = false
+is_end_key a b (Some n) k = same_key (record { block = record b { number = n }; area = a }) k
 
--- the keys of a cell at the blocks of an area
-abbrev pub is_area_key : Addr → Area → Key → Bool
-is_area_key c r k = same_addr c k.cell && is_block_of r k.block
+-- the keys of an area at the ends of the blocks of a level from that of `b` up to and without `high`
+abbrev pub is_level_key : Corners → Block → ℕ → Key → Bool
+is_level_key a b high k = same_corners a k.area && ((b.sheet == k.block.sheet) && ((b.col == k.block.col) && ((b.level == k.block.level) && is_end b.number high k.block.number)))
 
--- the keys of a cell at the blocks of its areas
-abbrev pub is_cell_key : Addr → List Area → Key → Bool
-is_cell_key c areas k = same_addr c k.cell && is_block_in areas k.block
+-- the keys of an area at its blocks in one column, below a level
+abbrev pub is_column_key : Corners → ℕ → ℕ → Key → Bool
+is_column_key a col levels k = same_corners a k.area && ((a.first.sheet == k.block.sheet) && ((col == k.block.col) && (nat_lt k.block.level levels && is_cut a.first.row a.last.row k.block.level k.block.number)))
+
+-- the keys of an area at its blocks
+abbrev pub is_area_key : Corners → Key → Bool
+is_area_key a k = same_corners a k.area && is_block_of (area_between a) k.block
+
+-- the cell as a reader of each of these areas
+abbrev pub is_cell_reader : Addr → List Area → Reader → Bool
+is_cell_reader c areas x = same_addr c x.cell && is_area_in areas x.area
+
+-- no area ends behind the last column
+abbrev pub EndInSheet : List Key → Type 0
+EndInSheet keys = (k : Key) → has_key keys k ≡ true → k.area.last.col ≤ 256
 
 -- how many of the cells are not seen yet, and how many are still to be visited
 abbrev pub unseen : List Addr → Search → ℕ
@@ -64,25 +78,25 @@ abbrev pub TookOne : Bool → Addr → Addr → List Addr → List Addr → Type
 TookOne true a b old new = IsBefore a b × (new ≡ old ++ a ∷ [])
 TookOne false a b old new = (IsBefore b a × (new ≡ old ++ b ∷ [])) ⊎ ((a ≡ b) × (new ≡ old))
 
--- the keys have the cell at a block of the level, from that of `b` up to the one with the number `last`
-pub record InBlocks (keys : List Key) (b : Block) (last : ℕ) (c : Addr) : Type 0 where
+-- the cell reads an area that was cut into a block of the level, from that of `b` up to the one with the number `last`
+pub record InBlocks (keys : List Key) (readers : List Reader) (b : Block) (last : ℕ) (c : Addr) : Type 0 where
   pub number : ℕ
   pub from : b.number ≤ number
   pub to : number ≤ last
-  pub there : has_key keys (record { block = record b { number = number }; cell = c }) ≡ true
+  pub there : reads_block keys readers (record b { number = number }) c ≡ true
 
 abbrev pub block_at : ℕ → ℕ → ℕ → ℕ → Block
 block_at sheet col level number = record { sheet = sheet; col = col; level = level; number = number }
 
 -- the same at a level below `levels`, and the blocks are those of the rows from `top` to `bottom` of a column
-pub record InColumn (keys : List Key) (sheet col top bottom levels : ℕ) (c : Addr) : Type 0 where
+pub record InColumn (keys : List Key) (readers : List Reader) (sheet col top bottom levels : ℕ) (c : Addr) : Type 0 where
   pub level : ℕ
   pub below : level < levels
-  pub there : InBlocks keys (block_at sheet col level (halves level top)) (halves level bottom) c
+  pub there : InBlocks keys readers (block_at sheet col level (halves level top)) (halves level bottom) c
 
--- the cells that the keys have at these blocks were met
-abbrev pub AreSeen : List Key → List Block → Search → Type 0
-AreSeen keys blocks search = (b : Block) (c : Addr) → list_any (same_block b) blocks ≡ true → has_key keys (record { block = b; cell = c }) ≡ true → IsMet search c
+-- the cells that read an area at one of these blocks were met
+abbrev pub AreSeen : List Key → List Reader → List Block → Search → Type 0
+AreSeen keys readers blocks search = (b : Block) (c : Addr) → list_any (same_block b) blocks ≡ true → reads_block keys readers b c ≡ true → IsMet search c
 
 -- the same, of the cells whose areas were cut into these blocks
 abbrev pub AreRead : CellAreas → List Block → Search → Type 0

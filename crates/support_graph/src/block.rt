@@ -18,10 +18,24 @@ pub(crate) struct Block {
     pub number: u32,
 }
 
-/// A block that one of a cell's areas was cut into.
+/// An area by its first and its last cell.
+#[derive(Clone, Copy, PartialEq, Eq, PartialOrd, Ord)]
+pub(crate) struct Corners {
+    pub first: Addr,
+    pub last: Addr,
+}
+
+/// A block that an area was cut into.
 #[derive(Clone, Copy, PartialEq, Eq, PartialOrd, Ord)]
 pub(crate) struct Key {
     pub block: Block,
+    pub area: Corners,
+}
+
+/// A cell that reads an area.
+#[derive(Clone, Copy, PartialEq, Eq, PartialOrd, Ord)]
+pub(crate) struct Reader {
+    pub area: Corners,
     pub cell: Addr,
 }
 

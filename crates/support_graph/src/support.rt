@@ -8,8 +8,8 @@ ghost use Rattle.cell_values.specs.Order.{InOrder, addresses, entry_at};
 ghost use Rattle.support_graph.specs.Support.{dependents_of, listed, IsIndexed, IsCell, Reads};
 ghost use Rattle.support_graph.specs.Steps.{AreRead, ReadsArea, Visits};
 
-use crate::block::{Block, Key};
-use crate::index::{put_areas, take_areas, visit_column, visit_row};
+use crate::block::Block;
+use crate::index::{Index, put_areas, take_areas, visit_column, visit_row};
 use crate::search::Search;
 use cell_values::{Addr, Area, LAST_ROW};
 use std::alloc::{AllocError, Global};
@@ -19,12 +19,14 @@ use std::marker::Model;
 /// The formula cells of a book, each with the areas that its formula names, in order of address.
 /// Contracts see the list of the addresses with their areas.
 ///
-/// Beside them stands an index of the blocks that the areas are cut into, so a look-up of the cells
-/// that read an address takes a search in the index for each level, however large the areas are.
+/// Beside them stands an index of the blocks that each area is cut into and of the cells that read each
+/// area, so a look-up of the cells that read an address takes a search in the index for each level and
+/// for each area found, however large the areas are. The blocks of an area are kept once, however many
+/// cells read it.
 #[derive(Drop)]
 pub struct Support {
     cells: BTreeMap<Addr, Vec<Area>>,
-    index: BTreeSet<Key>,
+    index: Index,
     alloc: Global,
 }
 
@@ -39,7 +41,7 @@ impl Model for Support {
 
     ghost view = { λ s. listed s.cells.entries };
 
-    ghost invariant = { λ s. IsIndexed (listed s.cells.entries) s.index.keys };
+    ghost invariant = { λ s. IsIndexed (listed s.cells.entries) s.index.blocks.keys s.index.readers.keys };
 }
 
 impl Support {
@@ -49,7 +51,7 @@ impl Support {
     {
         Support {
             cells: BTreeMap::new(alloc),
-            index: BTreeSet::new(alloc),
+            index: Index::new(alloc),
             alloc,
         }
     }
@@ -165,14 +167,14 @@ impl Support {
 fn put_cell(
     alloc: Global,
     cells: &mut BTreeMap<Addr, Vec<Area>>,
-    index: &mut BTreeSet<Key>,
+    index: &mut Index,
     cell: Addr,
     areas: &[Area],
 ) -> Result<(), AllocError>
     requires absent { entry_at (listed cells.old.entries) cell ≡ None }
-    requires indexed { IsIndexed (listed cells.old.entries) index.old.keys }
+    requires indexed { IsIndexed (listed cells.old.entries) index.old.blocks.keys index.old.readers.keys }
     requires areas { All IsArea areas.now }
-    ensures indexed { IsIndexed (listed cells.new.entries) index.new.keys }
+    ensures indexed { IsIndexed (listed cells.new.entries) index.new.blocks.keys index.new.readers.keys }
     ensures ok { OnOk result ((c : Addr) → entry_at (listed cells.new.entries) c ≡ cond (same_addr cell c) (Some areas.now) (entry_at (listed cells.old.entries) c)) }
     ensures err { OnErr result (cells.new.entries ≡ cells.old.entries) }
 {

@@ -141,10 +141,12 @@ fn a_cell_without_a_formula_spreads_to_its_readers(rt: HostRuntime) -> Result<()
     Ok(())
 }
 
-/// `=SUM(A1:A65536)` in each of the rows of column B.
-fn add_whole_columns(support: &mut Support, count: u32) -> Result<(), AllocError> {
+/// A formula that reads the area, in each of the rows of column B.
+fn add_readers(support: &mut Support, area: Area, count: u32) -> Result<(), AllocError>
+    requires { IsArea area }
+{
     for row in 0..count {
-        put(support, cell(row, 2), rows(1, 65_536, 1))?;
+        put(support, cell(row, 2), area)?;
     }
     Ok(())
 }
@@ -167,7 +169,8 @@ fn add_chain(support: &mut Support, col: u16, first: Area, count: u32) -> Result
 fn whole_columns_and_a_long_chain(rt: HostRuntime) -> Result<(), Fail> {
     let alloc = rt.alloc();
     let mut support = Support::new(alloc);
-    add_whole_columns(&mut support, 40_000)?;
+    // `=SUM(A1:A65536)`
+    add_readers(&mut support, rows(1, 65_536, 1), 40_000)?;
     // 100,000 cells. The first half stands in column A, so that each of its cells is read by the 40,000.
     add_chain(&mut support, 1, rows(1, 1, 10), 50_000)?;
     add_chain(&mut support, 4, rows(50_000, 50_000, 1), 50_000)?;
@@ -185,6 +188,37 @@ fn whole_columns_and_a_long_chain(rt: HostRuntime) -> Result<(), Fail> {
     stale.empty();
     first_edit(&support, &mut stale, rows(1, 1, 10))?;
     assert_eq!(rt; stale.len(), 40_001);
+    Ok(())
+}
+
+/// Takes out the formulas in the rows of column B, but for the first one.
+fn drop_readers(support: &mut Support, count: u32) {
+    for row in 1..count {
+        support.drop_cell(cell(row, 2));
+    }
+}
+
+#[test]
+fn one_large_area_that_many_cells_read(rt: HostRuntime) -> Result<(), Fail> {
+    let alloc = rt.alloc();
+    let mut support = Support::new(alloc);
+    // `=SUM(A1:IV256)`
+    let area = Area {
+        sheet: 0,
+        top: 1,
+        left: 1,
+        bottom: 256,
+        right: 256,
+    };
+    add_readers(&mut support, area, 40_000)?;
+    assert_eq!(rt; readers(rt, &support, cell(1, 1))?, 40_000);
+    assert_eq!(rt; readers(rt, &support, cell(256, 256))?, 40_000);
+    assert_eq!(rt; readers(rt, &support, cell(257, 256))?, 0);
+    // The blocks of the area stay as long as a cell reads it.
+    drop_readers(&mut support, 40_000);
+    assert_eq!(rt; readers(rt, &support, cell(256, 256))?, 1);
+    support.drop_cell(cell(0, 2));
+    assert_eq!(rt; readers(rt, &support, cell(256, 256))?, 0);
     Ok(())
 }
 

@@ -5,8 +5,8 @@ use Rattle.support_graph.proofs.index.set_column.Given as goal
 
 abbrev pub invariant-loop-level : goal.invariant-loop-level
 invariant-loop-level l = record {
-  low : l.low ≡ up_halves l.level l.area.top;
+  low : l.low ≡ up_halves l.level l.area.first.row;
   low_to : l.low ≤ 65536;
-  high : l.high ≡ halves l.level (suc l.area.bottom);
-  sets : Sets (is_column_key l.cell l.area l.col l.level) l.present true l.initial.index.keys l.index.keys;
+  high : l.high ≡ halves l.level (suc l.area.last.row);
+  sets : Sets (is_column_key l.area l.col l.level) l.present true l.initial.blocks.keys l.blocks.keys;
 }

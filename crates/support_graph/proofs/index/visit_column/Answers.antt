@@ -6,7 +6,7 @@ use Rattle.support_graph.proofs.Columns.{no_levels, level_visits}
 use Rattle.support_graph.proofs.index.visit_column.Goals as goal
 
 pub loop-level-init : goal.loop-level-init
-loop-level-init c = record { first = refl; last = refl; small = c.requires.few; visits = no_levels c.args.index.now.keys c.args.sheet c.args.col c.args.top c.args.bottom c.args.search.now }
+loop-level-init c = record { first = refl; last = refl; small = c.requires.few; visits = no_levels c.args.index.now.blocks.keys c.args.index.now.readers.keys c.args.sheet c.args.col c.args.top c.args.bottom c.args.search.now }
 
 pub visit_blocks-requires-clause-forward : goal.visit_blocks-requires-clause-forward
 visit_blocks-requires-clause-forward c =
@@ -24,7 +24,7 @@ loop-level-preserved c =
       first = ap (λ z. z / 2) inv.first ∙ ap (λ z. halves z c.args.top) next;
       last = ap (λ z. z / 2) inv.last ∙ ap (λ z. halves z c.args.bottom) next;
       small = omega (arith, small);
-      visits = level_visits c.args.index.now.keys c.args.sheet c.args.col c.args.top c.args.bottom n c.loop-level.first c.loop-level.last c.args.search.now c.loop-level.search c.visit_blocks.new.search inv.first inv.last inv.visits c.in_ok-visit_blocks.ensures;
+      visits = level_visits c.args.index.now.blocks.keys c.args.index.now.readers.keys c.args.sheet c.args.col c.args.top c.args.bottom n c.loop-level.first c.loop-level.last c.args.search.now c.loop-level.search c.visit_blocks.new.search inv.first inv.last inv.visits c.in_ok-visit_blocks.ensures;
     }
 
 pub returns : goal.returns
@@ -32,4 +32,4 @@ returns c =
     let a = c.loop-level.auto.level-end in
     let b = c.loop-level-test.false in
     let e : c.loop-level.level ≡ 16 = omega arith in
-    subst (λ (n : ℕ). Visits (InColumn c.args.index.now.keys c.args.sheet c.args.col c.args.top c.args.bottom n) c.args.search.now c.loop-level.search) e c.loop-level.invariant.visits
+    subst (λ (n : ℕ). Visits (InColumn c.args.index.now.blocks.keys c.args.index.now.readers.keys c.args.sheet c.args.col c.args.top c.args.bottom n) c.args.search.now c.loop-level.search) e c.loop-level.invariant.visits

@@ -8,5 +8,5 @@ invariant-loop-level l = record {
   first : l.first ≡ halves l.level l.top;
   last : l.last ≡ halves l.level l.bottom;
   small : l.last ≤ 65536;
-  visits : Visits (InColumn l.index.keys l.sheet l.col l.top l.bottom l.level) l.initial.search l.search;
+  visits : Visits (InColumn l.index.blocks.keys l.index.readers.keys l.sheet l.col l.top l.bottom l.level) l.initial.search l.search;
 }

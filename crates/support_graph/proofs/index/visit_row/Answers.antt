@@ -5,7 +5,7 @@ use Rattle.support_graph.proofs.Columns.{no_levels, level_visits}
 use Rattle.support_graph.proofs.index.visit_row.Goals as goal
 
 pub loop-level-init : goal.loop-level-init
-loop-level-init c = record { number = refl; small = c.requires.few; visits = no_levels c.args.index.now.keys c.args.addr.sheet c.args.addr.col c.args.addr.row c.args.addr.row c.args.search.now; done = c.requires.done }
+loop-level-init c = record { number = refl; small = c.requires.few; visits = no_levels c.args.index.now.blocks.keys c.args.index.now.readers.keys c.args.addr.sheet c.args.addr.col c.args.addr.row c.args.addr.row c.args.search.now; done = c.requires.done }
 
 pub loop-level-preserved : goal.loop-level-preserved
 loop-level-preserved c =
@@ -17,7 +17,7 @@ loop-level-preserved c =
     record {
       number = ap (λ z. z / 2) inv.number ∙ ap (λ z. halves z a.row) next;
       small = omega (arith, small);
-      visits = level_visits c.args.index.now.keys a.sheet a.col a.row a.row n c.loop-level.number c.loop-level.number c.args.search.now c.loop-level.search c.visit_block_once.new.search inv.number inv.number inv.visits c.in_ok-visit_block_once.ensures.visits;
+      visits = level_visits c.args.index.now.blocks.keys c.args.index.now.readers.keys a.sheet a.col a.row a.row n c.loop-level.number c.loop-level.number c.args.search.now c.loop-level.search c.visit_block_once.new.search inv.number inv.number inv.visits c.in_ok-visit_block_once.ensures.visits;
       done = c.in_ok-visit_block_once.ensures.done;
     }
 
@@ -27,4 +27,4 @@ returns-clause-visits c =
     let b = c.loop-level.auto.level-end in
     let d = c.loop-level-test.false in
     let e : c.loop-level.level ≡ 16 = omega arith in
-    subst (λ (n : ℕ). Visits (InColumn c.args.index.now.keys a.sheet a.col a.row a.row n) c.args.search.now c.loop-level.search) e c.loop-level.invariant.visits
+    subst (λ (n : ℕ). Visits (InColumn c.args.index.now.blocks.keys c.args.index.now.readers.keys a.sheet a.col a.row a.row n) c.args.search.now c.loop-level.search) e c.loop-level.invariant.visits

@@ -7,6 +7,6 @@ abbrev pub invariant-loop-level : goal.invariant-loop-level
 invariant-loop-level l = record {
   number : l.number ≡ halves l.level l.addr.row;
   small : l.number ≤ 65536;
-  visits : Visits (InColumn l.index.keys l.addr.sheet l.addr.col l.addr.row l.addr.row l.level) l.initial.search l.search;
-  done : AreSeen l.index.keys l.done.keys l.search;
+  visits : Visits (InColumn l.index.blocks.keys l.index.readers.keys l.addr.sheet l.addr.col l.addr.row l.addr.row l.level) l.initial.search l.search;
+  done : AreSeen l.index.blocks.keys l.index.readers.keys l.done.keys l.search;
 }

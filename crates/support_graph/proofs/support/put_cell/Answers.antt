@@ -14,4 +14,4 @@ returns-in-Ok-clause-ok c q =
 
 pub returns-in-Ok-clause-indexed : goal.returns-in-Ok-clause-indexed
 returns-in-Ok-clause-indexed c =
-    indexed_put (listed c.args.cells.now.entries) (listed c.insert.new.self.entries) c.args.index.now.keys c.put_areas.new.index.keys c.args.cell c.args.areas.now c.requires.absent c.requires.indexed c.requires.areas (order_listed c.insert.new.self.entries c.in-Ok.ensures.ordered) (returns-in-Ok-clause-ok c) c.in_ok-put_areas.ensures
+    indexed_put (listed c.args.cells.now.entries) (listed c.insert.new.self.entries) c.args.index.now.blocks.keys c.put_areas.new.index.blocks.keys c.args.index.now.readers.keys c.put_areas.new.index.readers.keys c.args.cell c.args.areas.now c.requires.absent c.requires.indexed c.requires.areas (order_listed c.insert.new.self.entries c.in-Ok.ensures.ordered) (returns-in-Ok-clause-ok c) c.in_ok-put_areas.ensures.readers c.in_ok-put_areas.ensures.cut
