@@ -20,8 +20,9 @@ use Rattle.worker_machine.specs.declared.action.Next.TheVariants.{Alter}
 use Rattle.worker_machine.specs.declared.state.Entry.{Entry}
 use Rattle.worker_machine.specs.declared.state.Store.{Store}
 use Rattle.worker_machine.specs.Jobs.{Job}
-use Rattle.worker_machine.specs.States.{State, Phase, Free, Claiming, ReadingTag, ReadingValue, start, cells_of, has, known_at}
-use Rattle.worker_machine.specs.Machine.{pop, learn_top, part_to, mark_all, mark_cycle, after_change, next, settle, after_word, after_claim, after_tag, after_load_tag, after_record, after_value, after_load_value, after, push_cell, learn_cell, fresh_store, store_after, with_word, with_tag}
+use Rattle.worker_machine.specs.Evaluation.{cells_of, has, learn_top, mark_all, mark_cycle, part_to, pop}
+use Rattle.worker_machine.specs.States.{State, Phase, Free, Claiming, ReadingTag, ReadingValue, start, known_at}
+use Rattle.worker_machine.specs.Machine.{after_change, next, settle, after_word, after_claim, after_tag, after_load_tag, after_record, after_value, after_load_value, after, push_cell, learn_cell, fresh_store, store_after, with_word, with_tag}
 use Rattle.worker_machine.specs.RoundSteps.{IsFreshView, action_of, claimer_in, IsTold, IsStep}
 use Rattle.worker_machine.specs.Invariant.{TopIsOwed, IsBounded}
 use Rattle.worker_machine.specs.Left.{in_phase, met_in, one_less, fresh_cells, owed_one, owed_in, phase_left, tag_left, held_left, left_of, left}
@@ -197,24 +198,24 @@ look_free : (j : Job) (s : State) (i : ℕ) → LookWhy j s i → s.phase ≡ Fr
 look_free j s i (demanded n off) = n.asked.top.is_free
 look_free j s i (first p q l u) = p
 
-look_new : (j : Job) (s : State) (i : ℕ) → LookWhy j s i → (i < length j.cells) × (met_in s.known s.stack Free i ≡ false)
-look_new j s i (demanded n off) = ((number_some j n.cell i n.is_number).0, rw (n.lacking, off) refl)
+look_new : (j : Job) (s : State) (i : ℕ) → LookWhy j s i → (i < length j.pending.cells) × (met_in s.known s.stack Free i ≡ false)
+look_new j s i (demanded n off) = ((number_some j.pending n.cell i n.is_number).0, rw (n.lacking, off) refl)
 look_new j s i (first p q l u) = (l, rw (u, q) refl)
 
 eqb_self : (i : ℕ) → eqb i i ≡ true
 eqb_self i = eq-eqb i i refl
 
-look_left : (j : Job) (s : State) (i : ℕ) (w : CellWord) → LookWhy j s i → left (length j.cells) (after_word s i w) < left_of (length j.cells) s.known s.stack Free s.held
+look_left : (j : Job) (s : State) (i : ℕ) (w : CellWord) → LookWhy j s i → left (length j.pending.cells) (after_word s i w) < left_of (length j.pending.cells) s.known s.stack Free s.held
 look_left j s i CellWord.Stale h =
     let n = look_new j s i h in
-    new_cell (length j.cells) s.known s.stack s.held s.stack (Claiming i) i n.0 n.1 (met_phase s.known s.stack (Claiming i) i (eqb_self i)) (stays_phase (length j.cells) s.known s.stack Free (Claiming i) (λ k e. cc)) (omega arith)
+    new_cell (length j.pending.cells) s.known s.stack s.held s.stack (Claiming i) i n.0 n.1 (met_phase s.known s.stack (Claiming i) i (eqb_self i)) (stays_phase (length j.pending.cells) s.known s.stack Free (Claiming i) (λ k e. cc)) (omega arith)
 look_left j s i (CellWord.Claimed c) h =
     let n = look_new j s i h in
     let fs : List Entry = record { cell = i; owed = Some c } ∷ s.stack in
-    new_cell (length j.cells) s.known s.stack s.held fs Free i n.0 n.1 (met_stack s.known fs Free i (or_left (eqb i i) (has i (cells_of s.stack)) (eqb_self i))) (stays_pushed (length j.cells) s.known s.stack Free i (Some c) (λ k e. cc)) (omega arith)
+    new_cell (length j.pending.cells) s.known s.stack s.held fs Free i n.0 n.1 (met_stack s.known fs Free i (or_left (eqb i i) (has i (cells_of s.stack)) (eqb_self i))) (stays_pushed (length j.pending.cells) s.known s.stack Free i (Some c) (λ k e. cc)) (omega arith)
 look_left j s i (CellWord.Done p c r) h =
     let n = look_new j s i h in
-    new_cell (length j.cells) s.known s.stack s.held s.stack (ReadingTag i r) i n.0 n.1 (met_phase s.known s.stack (ReadingTag i r) i (eqb_self i)) (stays_phase (length j.cells) s.known s.stack Free (ReadingTag i r) (λ k e. cc)) (omega arith)
+    new_cell (length j.pending.cells) s.known s.stack s.held s.stack (ReadingTag i r) i n.0 n.1 (met_phase s.known s.stack (ReadingTag i r) i (eqb_self i)) (stays_phase (length j.pending.cells) s.known s.stack Free (ReadingTag i r) (λ k e. cc)) (omega arith)
 
 push_left : (m : ℕ) (s : State) (i c : ℕ) → left m (push_cell i (Some c) s) < left_of m s.known s.stack (Claiming i) s.held
 push_left m s i c = less m s.known s.stack (Claiming i) s.held s.known (record { cell = i; owed = Some c } ∷ s.stack) Free s.held (stays_pushed m s.known s.stack (Claiming i) i (Some c) (λ n x. x)) (omega arith)
@@ -279,30 +280,30 @@ value_left_of m s i r t ws w e = go (ltb (length (ws ++ w ∷ [])) (tag_words t)
     go false p (Some q) = less m s.known s.stack (ReadingValue i r t ws) s.held (set s.known i (Some q)) s.stack Free s.held (stays_learnt m s.known s.stack (ReadingValue i r t ws) i q e (λ n x. x)) (omega arith)
     go false p None = less m s.known s.stack (ReadingValue i r t ws) s.held s.known (record { cell = i; owed = None } ∷ s.stack) Free s.held (stays_pushed m s.known s.stack (ReadingValue i r t ws) i None (λ n x. x)) (omega arith)
 
-after_left : (j : Job) (v : View) (s : State) (x : ℕ) (e : Event) → length j.cells ≡ length s.known → WhyStep j s (action_of x e) → IsTold v s e → left (length j.cells) (after j s e) < left (length j.cells) s
-after_left j v s x (Event.Look i w) z why told = subst (λ p. left (length j.cells) (after_word s i w) < left_of (length j.cells) s.known s.stack p s.held) (sym (look_free j s i why)) (look_left j s i w why)
-after_left j v s x (Event.Claim i a) z why told = subst (λ p. left (length j.cells) (after_claim j s i a) < left_of (length j.cells) s.known s.stack p s.held) (sym why) (claim_left j (length j.cells) v s i a told)
-after_left j v s x (Event.TakeRecord r) z why told = subst (λ h. left_of (length j.cells) s.known s.stack s.phase (Some (fresh_store r)) < left_of (length j.cells) s.known s.stack s.phase h) (sym why.4) (take_left (length j.cells) s r)
-after_left j v s x (Event.StoreValue r k w) z why told = subst (λ h. left_of (length j.cells) s.known s.stack s.phase (with_word h) < left_of (length j.cells) s.known s.stack s.phase h) (sym why.2.held) (store_left (length j.cells) s why.0 why.1 why.6)
-after_left j v s x (Event.StoreTag r w) z why told = subst (λ h. left_of (length j.cells) s.known s.stack s.phase (with_tag h) < left_of (length j.cells) s.known s.stack s.phase h) (sym why.2.held) (store_tag_left (length j.cells) s why.0 why.6)
+after_left : (j : Job) (v : View) (s : State) (x : ℕ) (e : Event) → length j.pending.cells ≡ length s.known → WhyStep j s (action_of x e) → IsTold v s e → left (length j.pending.cells) (after j s e) < left (length j.pending.cells) s
+after_left j v s x (Event.Look i w) z why told = subst (λ p. left (length j.pending.cells) (after_word s i w) < left_of (length j.pending.cells) s.known s.stack p s.held) (sym (look_free j s i why)) (look_left j s i w why)
+after_left j v s x (Event.Claim i a) z why told = subst (λ p. left (length j.pending.cells) (after_claim j s i a) < left_of (length j.pending.cells) s.known s.stack p s.held) (sym why) (claim_left j (length j.pending.cells) v s i a told)
+after_left j v s x (Event.TakeRecord r) z why told = subst (λ h. left_of (length j.pending.cells) s.known s.stack s.phase (Some (fresh_store r)) < left_of (length j.pending.cells) s.known s.stack s.phase h) (sym why.4) (take_left (length j.pending.cells) s r)
+after_left j v s x (Event.StoreValue r k w) z why told = subst (λ h. left_of (length j.pending.cells) s.known s.stack s.phase (with_word h) < left_of (length j.pending.cells) s.known s.stack s.phase h) (sym why.2.held) (store_left (length j.pending.cells) s why.0 why.1 why.6)
+after_left j v s x (Event.StoreTag r w) z why told = subst (λ h. left_of (length j.pending.cells) s.known s.stack s.phase (with_tag h) < left_of (length j.pending.cells) s.known s.stack s.phase h) (sym why.2.held) (store_tag_left (length j.pending.cells) s why.0 why.6)
 after_left j v s x (Event.Publish i r a) z why told =
     let o = why.2 in
-    let new : left (length j.cells) (after j s (Event.Publish i r a)) ≡ left_of (length j.cells) s.known (pop (o.entry ∷ o.rest)) Free (store_after a r) = (λ z. left_of (length j.cells) s.known (pop (o.on_top z)) (o.is_free z) (store_after a r)) in
-    let old : left (length j.cells) s ≡ left_of (length j.cells) s.known (o.entry ∷ o.rest) Free s.held = (λ z. left_of (length j.cells) s.known (o.on_top z) (o.is_free z) s.held) in
-    let lt = publish_left (length j.cells) s i r x a why.1 o in
+    let new : left (length j.pending.cells) (after j s (Event.Publish i r a)) ≡ left_of (length j.pending.cells) s.known (pop (o.entry ∷ o.rest)) Free (store_after a r) = (λ z. left_of (length j.pending.cells) s.known (pop (o.on_top z)) (o.is_free z) (store_after a r)) in
+    let old : left (length j.pending.cells) s ≡ left_of (length j.pending.cells) s.known (o.entry ∷ o.rest) Free s.held = (λ z. left_of (length j.pending.cells) s.known (o.on_top z) (o.is_free z) s.held) in
+    let lt = publish_left (length j.pending.cells) s i r x a why.1 o in
     omega (arith, new, old, lt)
-after_left j v s x (Event.LoadTag r t) z why told = subst (λ p. left (length j.cells) (after_load_tag s t p) < left_of (length j.cells) s.known s.stack p s.held) (sym why.1) (tag_left_of (length j.cells) s why.0 r t z)
-after_left j v s x (Event.LoadValue r k w) z why told = subst (λ p. left (length j.cells) (after_load_value s w p) < left_of (length j.cells) s.known s.stack p s.held) (sym why.3) (value_left_of (length j.cells) s why.0 r why.1 why.2 w z)
+after_left j v s x (Event.LoadTag r t) z why told = subst (λ p. left (length j.pending.cells) (after_load_tag s t p) < left_of (length j.pending.cells) s.known s.stack p s.held) (sym why.1) (tag_left_of (length j.pending.cells) s why.0 r t z)
+after_left j v s x (Event.LoadValue r k w) z why told = subst (λ p. left (length j.pending.cells) (after_load_value s w p) < left_of (length j.pending.cells) s.known s.stack p s.held) (sym why.3) (value_left_of (length j.pending.cells) s why.0 r why.1 why.2 w z)
 
-pub step_left : (j : Job) (v : View) (s : State) (e : Event) → length s.known ≡ length j.cells → IsStep j v s e → left (length j.cells) (after j s e) < left (length j.cells) s
+pub step_left : (j : Job) (v : View) (s : State) (e : Event) → length s.known ≡ length j.pending.cells → IsStep j v s e → left (length j.pending.cells) (after j s e) < left (length j.pending.cells) s
 step_left j v s e z st = after_left j v s (claimer_in st.act) e (sym z) (why_event j v s e z st) st.told
 
 -- the steps that were made and those that can come
 
 pub settle_bounded : (j : Job) (v : View) (s : State) (c : Change) → next j s ≡ Alter c → IsBounded j v s → IsBounded j v (after_change s c)
-settle_bounded j v s c e h = (let d = change_left j (length j.cells) s c e in omega arith)
+settle_bounded j v s c e h = (let d = change_left j (length j.pending.cells) s c e in omega arith)
 
-pub step_bounded : (j : Job) (v : View) (s : State) (e : Event) → length s.known ≡ length j.cells → IsStep j v s e → IsBounded j v s → IsBounded j (grown e v) (after j s e)
+pub step_bounded : (j : Job) (v : View) (s : State) (e : Event) → length s.known ≡ length j.pending.cells → IsStep j v s e → IsBounded j v s → IsBounded j (grown e v) (after j s e)
 step_bounded j v s e z st h =
     let one = step_left j v s e z st in
     let size = length_push v.events (made (me v) e) in
@@ -310,14 +311,14 @@ step_bounded j v s e z st h =
 
 pub start_bounded : (j : Job) (v : View) → IsFreshView j v → IsBounded j v (start j)
 start_bounded j v h =
-    let f = mul-le-mul_left (5 + WORDS) (fresh_all (met_in (start j).known [] Free) (length j.cells)) in
+    let f = mul-le-mul_left (5 + WORDS) (fresh_all (met_in (start j).known [] Free) (length j.pending.cells)) in
     let none : length v.events ≡ 0 = ap length h.no_events in
     omega arith
 
-pub few_events : (j : Job) (v : View) (s : State) → IsBounded j v s → length v.events ≤ 16 * length j.cells + 16
+pub few_events : (j : Job) (v : View) (s : State) → IsBounded j v s → length v.events ≤ 16 * length j.pending.cells + 16
 few_events j v s h =
     let w = few_words in
-    let c : (5 + WORDS) * length j.cells ≤ 16 * length j.cells = mul_le (5 + WORDS) 16 (length j.cells) (omega arith) in
+    let c : (5 + WORDS) * length j.pending.cells ≤ 16 * length j.pending.cells = mul_le (5 + WORDS) 16 (length j.pending.cells) (omega arith) in
     omega arith
   where
     mul_le : (a b c : ℕ) → a ≤ b → a * c ≤ b * c

@@ -6,17 +6,16 @@ use Rattle.demand_spec.specs.Book.{Book, need}
 use Rattle.demand_spec.specs.Laws.{In, Demands, Chain, NeedChain, HasPeriod, IsLoop}
 use Rattle.demand_spec.proofs.Loops.{stack_closes}
 use Rattle.worker_machine.proofs.Numbers.{cells_differ, cells_in}
-use Rattle.worker_machine.specs.Invariant.{Among, Below, Differ, LinkTo}
-use Rattle.worker_machine.specs.Jobs.{IsJob, Job, cell_at}
-use Rattle.worker_machine.specs.Machine.{part_to}
-use Rattle.worker_machine.specs.States.{has}
+use Rattle.claim_core.specs.Pending.{IsPending}
+use Rattle.worker_machine.specs.Jobs.{Pending, cell_at}
+use Rattle.worker_machine.specs.Evaluation.{Among, Below, Differ, LinkTo, has, part_to}
 
-abbrev cells : Job → List ℕ → List Addr
-cells j ns = map (cell_at j) ns
+abbrev cells : Pending → List ℕ → List Addr
+cells ps ns = map (cell_at ps) ns
 
-pub record Closes (j : Job) (i : ℕ) (acc part : List ℕ) : Type 0 where
+pub record Closes (ps : Pending) (i : ℕ) (acc part : List ℕ) : Type 0 where
   pub rest : List ℕ
-  pub loop : IsLoop j.book (cell_at j i) (map (cell_at j) rest)
+  pub loop : IsLoop ps.book (cell_at ps i) (map (cell_at ps) rest)
   pub from : (n : ℕ) → Among n (i ∷ rest) → Among n acc ⊎ Among n part
   pub into : (n : ℕ) → Among n acc ⊎ Among n part → Among n (i ∷ rest)
   pub count : length (i ∷ rest) ≡ length acc + length part
@@ -24,19 +23,19 @@ pub record Closes (j : Job) (i : ℕ) (acc part : List ℕ) : Type 0 where
 abbrev Apart : List ℕ → List ℕ → Type 0
 Apart acc xs = (n : ℕ) → Among n acc → Among n xs → ⊥
 
-closed_here : (j : Job) (i x : ℕ) (acc : List ℕ) → IsJob j → x ≡ i → Chain j.book (cells j (x ∷ acc)) (cell_at j i) → Differ (x ∷ acc) → Below (length j.cells) (x ∷ acc) → Closes j i acc (x ∷ [])
-closed_here j i x acc job e chain d b =
-    let here : IsLoop j.book (cell_at j x) (cells j acc) = stack_closes j.book [] (cell_at j x) (cells j acc) (cells_differ j job (x ∷ acc) b d) (subst (λ z. Chain j.book (cells j (x ∷ acc)) (cell_at j z)) (sym e) chain) in
+closed_here : (ps : Pending) (i x : ℕ) (acc : List ℕ) → IsPending ps.book ps.cells → x ≡ i → Chain ps.book (cells ps (x ∷ acc)) (cell_at ps i) → Differ (x ∷ acc) → Below (length ps.cells) (x ∷ acc) → Closes ps i acc (x ∷ [])
+closed_here ps i x acc pending e chain d b =
+    let here : IsLoop ps.book (cell_at ps x) (cells ps acc) = stack_closes ps.book [] (cell_at ps x) (cells ps acc) (cells_differ ps pending (x ∷ acc) b d) (subst (λ z. Chain ps.book (cells ps (x ∷ acc)) (cell_at ps z)) (sym e) chain) in
     record {
       rest = acc;
-      loop = subst (λ z. IsLoop j.book (cell_at j z) (cells j acc)) e here;
+      loop = subst (λ z. IsLoop ps.book (cell_at ps z) (cells ps acc)) e here;
       from = λ n. ⊎_elim (λ (k : n ≡ i). inr (inl (k ∙ sym e))) (λ k. inl k);
       into = λ n. ⊎_elim (λ k. inr k) (⊎_elim (λ (k : n ≡ x). inl (k ∙ e)) (λ k. absurd k));
       count = omega arith;
     }
 
-further : (j : Job) (i x : ℕ) (acc part : List ℕ) → Closes j i (x ∷ acc) part → Closes j i acc (x ∷ part)
-further j i x acc part c = record {
+further : (ps : Pending) (i x : ℕ) (acc part : List ℕ) → Closes ps i (x ∷ acc) part → Closes ps i acc (x ∷ part)
+further ps i x acc part c = record {
   rest = c.rest;
   loop = c.loop;
   from = λ n k. ⊎_elim (⊎_elim (λ (e : n ≡ x). inr (inl e)) (λ m. inl m)) (λ m. inr (inr m)) (c.from n k);
@@ -44,14 +43,14 @@ further j i x acc part c = record {
   count = (let z = c.count in omega arith);
 }
 
-closes_from : (j : Job) → IsJob j → (i : ℕ) (acc : List ℕ) (x : ℕ) (lower : List ℕ) → Chain j.book (cells j (x ∷ acc)) (cell_at j i) → LinkTo j x lower → Differ (x ∷ acc) → Differ (x ∷ lower) → Apart acc (x ∷ lower) → Below (length j.cells) (x ∷ acc) → Below (length j.cells) (x ∷ lower) → has i (x ∷ lower) ≡ true → Closes j i acc (part_to i (x ∷ lower))
-closes_from j job i acc x [] chain links d dl ap_ b bl h = go (eqb x i) refl h
+closes_from : (ps : Pending) → IsPending ps.book ps.cells → (i : ℕ) (acc : List ℕ) (x : ℕ) (lower : List ℕ) → Chain ps.book (cells ps (x ∷ acc)) (cell_at ps i) → LinkTo ps x lower → Differ (x ∷ acc) → Differ (x ∷ lower) → Apart acc (x ∷ lower) → Below (length ps.cells) (x ∷ acc) → Below (length ps.cells) (x ∷ lower) → has i (x ∷ lower) ≡ true → Closes ps i acc (part_to i (x ∷ lower))
+closes_from ps pending i acc x [] chain links d dl ap_ b bl h = go (eqb x i) refl h
   where
-    go : (t : Bool) → eqb x i ≡ t → (t || false) ≡ true → Closes j i acc (cond t (x ∷ []) (x ∷ []))
-    go true e q = closed_here j i x acc job (eqb-true x i e) chain d b
+    go : (t : Bool) → eqb x i ≡ t → (t || false) ≡ true → Closes ps i acc (cond t (x ∷ []) (x ∷ []))
+    go true e q = closed_here ps i x acc pending (eqb-true x i e) chain d b
     go false e q = cc
-closes_from j job i acc x (y ∷ lower) chain links d dl apt b bl h =
-    go (λ q. closes_from j job i (x ∷ acc) y lower
+closes_from ps pending i acc x (y ∷ lower) chain links d dl apt b bl h =
+    go (λ q. closes_from ps pending i (x ∷ acc) y lower
     (links.0, chain) links.1
     ((λ k. ⊎_elim (λ (s : y ≡ x). dl.0 (inl (sym s))) (λ m. apt y m (inr (inl refl))) k), d)
     dl.1
@@ -59,13 +58,13 @@ closes_from j job i acc x (y ∷ lower) chain links d dl apt b bl h =
     (bl.1.0, b) bl.1 q)
     (eqb x i) refl h
   where
-    go : (has i (y ∷ lower) ≡ true → Closes j i (x ∷ acc) (part_to i (y ∷ lower))) → (t : Bool) → eqb x i ≡ t → (t || has i (y ∷ lower)) ≡ true → Closes j i acc (cond t (x ∷ []) (x ∷ part_to i (y ∷ lower)))
-    go later true e q = closed_here j i x acc job (eqb-true x i e) chain d b
-    go later false e q = further j i x acc (part_to i (y ∷ lower)) (later q)
+    go : (has i (y ∷ lower) ≡ true → Closes ps i (x ∷ acc) (part_to i (y ∷ lower))) → (t : Bool) → eqb x i ≡ t → (t || has i (y ∷ lower)) ≡ true → Closes ps i acc (cond t (x ∷ []) (x ∷ part_to i (y ∷ lower)))
+    go later true e q = closed_here ps i x acc pending (eqb-true x i e) chain d b
+    go later false e q = further ps i x acc (part_to i (y ∷ lower)) (later q)
 
 -- the top needs the cell i of the stack
-pub closes : (j : Job) → IsJob j → (i x : ℕ) (lower : List ℕ) → Demands j.book (cell_at j x) (cell_at j i) → LinkTo j x lower → Differ (x ∷ lower) → Below (length j.cells) (x ∷ lower) → has i (x ∷ lower) ≡ true → Closes j i [] (part_to i (x ∷ lower))
-closes j job i x lower top links d b h = closes_from j job i [] x lower (top, tt) links ((λ k. k), tt) d (λ n k m. k) (b.0, tt) b h
+pub closes : (ps : Pending) → IsPending ps.book ps.cells → (i x : ℕ) (lower : List ℕ) → Demands ps.book (cell_at ps x) (cell_at ps i) → LinkTo ps x lower → Differ (x ∷ lower) → Below (length ps.cells) (x ∷ lower) → has i (x ∷ lower) ≡ true → Closes ps i [] (part_to i (x ∷ lower))
+closes ps pending i x lower top links d b h = closes_from ps pending i [] x lower (top, tt) links ((λ k. k), tt) d (λ n k m. k) (b.0, tt) b h
 
 -- a cell of a loop needs a cell of it
 next_in_chain : (b : Book) (cs : List Addr) (y c : Addr) → NeedChain b cs y → In c cs → (z : Addr) × (need b c ≡ Some z) × (In z cs ⊎ (z ≡ y))
@@ -86,9 +85,9 @@ next_in_loop b s rest c y loop k e =
     subst (λ z. In z (s ∷ rest)) same at
 
 -- the cells that are marked are as many as the loop is long
-pub closes_period : (j : Job) (i : ℕ) (part : List ℕ) → Closes j i [] part → (n : ℕ) → Among n part → HasPeriod j.book (cell_at j n) (length part)
-closes_period j i part c n k =
+pub closes_period : (ps : Pending) (i : ℕ) (part : List ℕ) → Closes ps i [] part → (n : ℕ) → Among n part → HasPeriod ps.book (cell_at ps n) (length part)
+closes_period ps i part c n k =
     let z = c.count in
-    let l = length-map c.rest (cell_at j) in
-    let same : length (cell_at j i ∷ map (cell_at j) c.rest) ≡ length part = omega arith in
-    subst (HasPeriod j.book (cell_at j n)) same (c.loop.period (cell_at j n) (cells_in j n (i ∷ c.rest) (c.into n (inr k))))
+    let l = length-map c.rest (cell_at ps) in
+    let same : length (cell_at ps i ∷ map (cell_at ps) c.rest) ≡ length part = omega arith in
+    subst (HasPeriod ps.book (cell_at ps n)) same (c.loop.period (cell_at ps n) (cells_in ps n (i ∷ c.rest) (c.into n (inr k))))

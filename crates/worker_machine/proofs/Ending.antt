@@ -7,10 +7,11 @@ use Rattle.claim_core.specs.Passes.{SeesAllDone}
 use Rattle.worker_machine.specs.declared.action.Next.{Next}
 use Rattle.worker_machine.specs.declared.action.Next.TheVariants.{Alter, Do, Rest}
 use Rattle.worker_machine.specs.Jobs.{Job}
-use Rattle.worker_machine.specs.States.{State, cells_of}
-use Rattle.worker_machine.specs.Machine.{first_unknown, first_from, begins_at, look_at_cell, action_from, action, next}
-use Rattle.worker_machine.specs.Runs.{KnowsAll, IsSettled}
-use Rattle.worker_machine.specs.Invariant.{Among, SawDone, IsMet, IsRightState}
+use Rattle.worker_machine.specs.Evaluation.{Among, KnowsAll, cells_of, first_from, first_unknown}
+use Rattle.worker_machine.specs.States.{State}
+use Rattle.worker_machine.specs.Machine.{begins_at, look_at_cell, action_from, action, next}
+use Rattle.worker_machine.specs.Runs.{IsSettled}
+use Rattle.worker_machine.specs.Invariant.{SawDone, IsMet, IsRightState}
 use Rattle.worker_machine.proofs.Numbers.{KnownList}
 use Rattle.worker_machine.proofs.Why.{why_is}
 
@@ -41,11 +42,11 @@ none_left j s hint settled e = go (next j s) refl e
     go (Do a) d f = cc
     go Rest d f = ((why_is j s Rest d).1, no_look j s hint f)
 
-pub ends_with_all : (j : Job) (v : View) (s : State) (hint : Option ℕ) → IsRightState j v s → IsSettled j s → action j s hint ≡ None → KnowsAll j s × SeesAllDone (length j.cells) v
+pub ends_with_all : (j : Job) (v : View) (s : State) (hint : Option ℕ) → IsRightState j v s → IsSettled j s → action j s hint ≡ None → KnowsAll j.pending s.known × SeesAllDone (length j.pending.cells) v
 ends_with_all j v s hint h settled e =
     let left = none_left j s hint settled e in
-    let size = h.knows.sized in
-    let met : IsMet v s.known [] = subst (λ fs. IsMet v s.known (cells_of fs)) left.0 h.met in (
-      (λ i l. let w = all_known s.known 0 left.1 i (omega arith) in w.1 ∙ ap Some (h.knows.right i w.0 w.1)),
+    let size = h.evaluation.knows.sized in
+    let met : IsMet v s.known [] = subst (λ fs. IsMet v s.known (cells_of fs)) left.0 h.tied.met in (
+      (λ i l. let w = all_known s.known 0 left.1 i (omega arith) in w.1 ∙ ap Some (h.evaluation.knows.right i w.0 w.1)),
       (λ i l. let w = all_known s.known 0 left.1 i (omega arith) in ⊎_elim (λ (d : SawDone v i). d) (λ (a : Among i []). absurd a) (met i w.0 w.1)),
     )

@@ -6,6 +6,7 @@ pub mod Settle
 pub mod Shows
 pub mod Closing
 pub mod Knowing
+pub mod Evaluating
 pub mod Changing
 pub mod Stepping
 pub mod Ending

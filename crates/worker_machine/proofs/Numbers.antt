@@ -5,10 +5,9 @@ use Rattle.std.proofs.lemmas.List.{length-set, get_or-set_same, get_or-set_other
 use Rattle.cell_values.specs.declared.address.Addr.{Addr}
 use Rattle.cell_values.specs.declared.values.Shown.{Shown}
 use Rattle.demand_spec.specs.Laws.{In, Distinct}
-use Rattle.worker_machine.specs.Jobs.{Job, IsJob, cell_at}
-use Rattle.worker_machine.specs.States.{has}
-use Rattle.worker_machine.specs.Machine.{mark_all}
-use Rattle.worker_machine.specs.Invariant.{Among, Differ, Below}
+use Rattle.claim_core.specs.Pending.{IsPending}
+use Rattle.worker_machine.specs.Jobs.{Pending, cell_at}
+use Rattle.worker_machine.specs.Evaluation.{Among, Below, Differ, has, mark_all}
 use Rattle.worker_machine.proofs.Places.{cell_one}
 
 abbrev pub KnownList : Type 0
@@ -28,23 +27,23 @@ has_not n (x ∷ xs) h (inr k) = go (λ e. has_not n xs e k) (eqb x n) h
     go later true d = cc
     go later false d = later d
 
-pub in_cells : (j : Job) (a : Addr) (ns : List ℕ) → In a (map (cell_at j) ns) → (n : ℕ) × Among n ns × (a ≡ cell_at j n)
-in_cells j a [] k = absurd k
-in_cells j a (x ∷ ns) (inl e) = (x, inl refl, e)
-in_cells j a (x ∷ ns) (inr k) = (let r = in_cells j a ns k in (r.0, inr r.1, r.2))
+pub in_cells : (ps : Pending) (a : Addr) (ns : List ℕ) → In a (map (cell_at ps) ns) → (n : ℕ) × Among n ns × (a ≡ cell_at ps n)
+in_cells ps a [] k = absurd k
+in_cells ps a (x ∷ ns) (inl e) = (x, inl refl, e)
+in_cells ps a (x ∷ ns) (inr k) = (let r = in_cells ps a ns k in (r.0, inr r.1, r.2))
 
-pub cells_in : (j : Job) (n : ℕ) (ns : List ℕ) → Among n ns → In (cell_at j n) (map (cell_at j) ns)
-cells_in j n [] k = absurd k
-cells_in j n (x ∷ ns) (inl e) = inl (ap (cell_at j) e)
-cells_in j n (x ∷ ns) (inr k) = inr (cells_in j n ns k)
+pub cells_in : (ps : Pending) (n : ℕ) (ns : List ℕ) → Among n ns → In (cell_at ps n) (map (cell_at ps) ns)
+cells_in ps n [] k = absurd k
+cells_in ps n (x ∷ ns) (inl e) = inl (ap (cell_at ps) e)
+cells_in ps n (x ∷ ns) (inr k) = inr (cells_in ps n ns k)
 
-pub cells_differ : (j : Job) → IsJob j → (ns : List ℕ) → Below (length j.cells) ns → Differ ns → Distinct (map (cell_at j) ns)
-cells_differ j job [] b d = tt
-cells_differ j job (x ∷ ns) b d = (
-  (λ k. let r = in_cells j (cell_at j x) ns k in
-      let same : x ≡ r.0 = cell_one j job x r.0 b.0 (below_at (length j.cells) r.0 ns b.1 r.1) r.2 in
+pub cells_differ : (ps : Pending) → IsPending ps.book ps.cells → (ns : List ℕ) → Below (length ps.cells) ns → Differ ns → Distinct (map (cell_at ps) ns)
+cells_differ ps pending [] b d = tt
+cells_differ ps pending (x ∷ ns) b d = (
+  (λ k. let r = in_cells ps (cell_at ps x) ns k in
+      let same : x ≡ r.0 = cell_one ps pending x r.0 b.0 (below_at (length ps.cells) r.0 ns b.1 r.1) r.2 in
       d.0 (subst (λ z. Among z ns) (sym same) r.1)),
-  cells_differ j job ns b.1 d.1,
+  cells_differ ps pending ns b.1 d.1,
 )
 
 pub known_below : (k : KnownList) (i : ℕ) (r : Shown) → get_or k i None ≡ Some r → i < length k

@@ -11,9 +11,10 @@ use Rattle.worker_machine.proofs.Numbers.{KnownList, length-marks}
 use Rattle.worker_machine.proofs.Why.{Top, Marked, other, known, nothing, why_is}
 use Rattle.worker_machine.specs.Invariant.{EntriesBelow, Within}
 use Rattle.worker_machine.specs.Jobs.{Job}
-use Rattle.worker_machine.specs.Machine.{after_change, changes_left, pop, learn_top, mark_all, mark_cycle, next, part_to, settle, settle_by, settle_for, unknown_in}
+use Rattle.worker_machine.specs.Evaluation.{cells_of, learn_top, mark_all, mark_cycle, part_to, pop}
+use Rattle.worker_machine.specs.Machine.{after_change, changes_left, next, settle, settle_by, settle_for, unknown_in}
 use Rattle.worker_machine.specs.Runs.{IsSettled}
-use Rattle.worker_machine.specs.States.{State, cells_of, known_at}
+use Rattle.worker_machine.specs.States.{State, known_at}
 
 pub length-learn_top : (fs : List Entry) (r : Shown) (k : KnownList) → length (learn_top fs r k) ≡ length k
 length-learn_top [] r k = refl

@@ -1,5 +1,5 @@
 -- What known values and marks say of what the book shows.
-use Rattle.std.proofs.Common.{◌≡◌, ℕ, zero, suc, ◌<◌, length, refl, sym, ap, ◌∙◌, subst, Option, Some, None, arith}
+use Rattle.std.proofs.Common.{◌≡◌, ℕ, zero, suc, ◌<◌, length, refl, sym, ap, ◌∙◌, subst, Option, Some, None, get_or, arith}
 use Rattle.cell_values.specs.declared.address.Addr.{Addr}
 use Rattle.cell_values.specs.declared.values.Value.{Value}
 use Rattle.demand_spec.specs.declared.Asked.{Asked}
@@ -13,10 +13,10 @@ use Rattle.demand_spec.proofs.Loops.{follow_then}
 use Rattle.demand_spec.proofs.Local.{ask_in, closed_back}
 use Rattle.demand_spec.proofs.Cycles.{shown_cycle, shown_to_cycle, loop_period, needs_unfinished, values_show}
 use Rattle.worker_machine.proofs.Places.{number_some, formula_there}
-use Rattle.worker_machine.specs.Jobs.{IsJob, Job, cell_at, cell_number}
-use Rattle.worker_machine.specs.Machine.{known_value, stored_value, value_from, value_in, values}
-use Rattle.worker_machine.specs.Runs.{AllRight}
-use Rattle.worker_machine.specs.States.{State, known_at}
+use Rattle.worker_machine.proofs.Numbers.{KnownList}
+use Rattle.claim_core.specs.Pending.{IsPending}
+use Rattle.worker_machine.specs.Jobs.{Pending, cell_at, cell_number}
+use Rattle.worker_machine.specs.Evaluation.{AllRight, known_value, stored_value, value_from, value_in, values}
 
 -- a formula cell shows its value exactly where it is finished
 
@@ -40,23 +40,23 @@ mark_unfinished b a t f e = go (finished b a) refl
     go (Some v) q = (let s = val_shown b a t v f q in let d = subst (λ z. value_in z ≡ None) s e in cc)
 
 -- what is known is a part of what is finished
-pub values_part : (j : Job) (s : State) → IsJob j → AllRight j s → PartOf (values j s.known) (finished j.book)
-values_part j s job right a v e = go (cell_number j a) refl e
+pub values_part : (ps : Pending) (k : KnownList) → IsPending ps.book ps.cells → AllRight ps k → PartOf (values ps k) (finished ps.book)
+values_part ps k pending right a v e = go (cell_number ps a) refl e
   where
-    by_known : (i : ℕ) → (i < length j.cells) × (cell_at j i ≡ a) → (k : Option Shown) → known_at s i ≡ k → known_value k ≡ Some v → finished j.book a ≡ Some v
+    by_known : (i : ℕ) → (i < length ps.cells) × (cell_at ps i ≡ a) → (o : Option Shown) → get_or k i None ≡ o → known_value o ≡ Some v → finished ps.book a ≡ Some v
     by_known i p None q d = cc
     by_known i p (Some r) q d =
-        let f = formula_there j job i p.0 in
-        let shows : shown j.book (cell_at j i) ≡ Shown.Val v = sym (right i r q) ∙ value_in_some r v d in
-        subst (λ z. finished j.book z ≡ Some v) p.1 (shown_val j.book (cell_at j i) f.0 v f.1 shows)
+        let f = formula_there ps pending i p.0 in
+        let shows : shown ps.book (cell_at ps i) ≡ Shown.Val v = sym (right i r q) ∙ value_in_some r v d in
+        subst (λ z. finished ps.book z ≡ Some v) p.1 (shown_val ps.book (cell_at ps i) f.0 v f.1 shows)
 
-    by_stored : (o : Option Expr) → formula_at j.book a ≡ o → stored_value o (shown j.book a) ≡ Some v → finished j.book a ≡ Some v
-    by_stored (Some t) f d = shown_val j.book a t v f (value_in_some (shown j.book a) v d)
+    by_stored : (o : Option Expr) → formula_at ps.book a ≡ o → stored_value o (shown ps.book a) ≡ Some v → finished ps.book a ≡ Some v
+    by_stored (Some t) f d = shown_val ps.book a t v f (value_in_some (shown ps.book a) v d)
     by_stored None f d = cc
 
-    go : (o : Option ℕ) → cell_number j a ≡ o → value_from j s.known a o ≡ Some v → finished j.book a ≡ Some v
-    go (Some i) p d = by_known i (number_some j a i p) (known_at s i) refl d
-    go None p d = by_stored (formula_at j.book a) refl d
+    go : (o : Option ℕ) → cell_number ps a ≡ o → value_from ps k a o ≡ Some v → finished ps.book a ≡ Some v
+    go (Some i) p d = by_known i (number_some ps a i p) (get_or k i None) refl d
+    go None p d = by_stored (formula_at ps.book a) refl d
 
 -- what an asked cell's answer is about
 pub record AskedFor (b : Book) (e : Known) (c : Addr) (r : Asked) : Type 0 where

@@ -1,8 +1,8 @@
 -- A step, told what the round tells, keeps all that is known and where it comes from.
-use Rattle.std.proofs.Common.{◌≡◌, ℕ, zero, suc, ◌+◌, ◌<◌, Bool, true, false, cond, inl, inr, ⊎_elim, List, [], ◌∷◌, ◌++◌, length, get_or, set, slice_index, eqb, ltb, replicate, drop, refl, sym, ap, ◌∙◌, subst, Option, Some, None, arith, eqb-true, eq-eqb}
+use Rattle.std.proofs.Common.{◌≡◌, ℕ, zero, suc, ◌+◌, ◌<◌, Bool, true, false, cond, inl, inr, ⊎_elim, List, [], ◌∷◌, ◌++◌, length, get_or, set, slice_index, eqb, ltb, drop, refl, sym, ap, ◌∙◌, subst, Option, Some, None, arith, eqb-true, eq-eqb}
 use Rattle.std.specs.Option.{option_or}
 use Rattle.std.proofs.lemmas.Bool.{ltb-true, ltb-false}
-use Rattle.std.proofs.lemmas.List.{length-drop, get_or-drop, length-replicate, length_push}
+use Rattle.std.proofs.lemmas.List.{length-drop, get_or-drop, length_push}
 use Rattle.cell_values.specs.declared.values.Shown.{Shown}
 use Rattle.cell_words.specs.declared.cell_word.CellWord.{CellWord}
 use Rattle.cell_words.specs.Records.{IsShown, tag_words, tag_of, value_of, record_words, filled, shown_read}
@@ -19,22 +19,23 @@ use Rattle.worker_machine.specs.declared.action.Next.{Next}
 use Rattle.worker_machine.specs.declared.action.Next.TheVariants.{Alter, Do, Rest}
 use Rattle.worker_machine.specs.declared.state.Entry.{Entry}
 use Rattle.worker_machine.specs.Jobs.{Job, IsJob, shows}
-use Rattle.worker_machine.specs.States.{State, Phase, Free, Claiming, ReadingTag, ReadingValue, start, cells_of, has, known_at}
-use Rattle.worker_machine.specs.Machine.{first_unknown, first_from, begins_at, look_at_cell, action_from, action, next, pop, after_word, after_tag, after_load_tag, after_record, after_value, after_load_value, after, push_cell, learn_cell}
+use Rattle.worker_machine.specs.Evaluation.{IsEvaluation, Among, Knows, cells_of, first_from, first_unknown, has, pop}
+use Rattle.worker_machine.specs.States.{State, Phase, Free, Claiming, ReadingTag, ReadingValue, start, known_at}
+use Rattle.worker_machine.specs.Machine.{begins_at, look_at_cell, action_from, action, next, after_word, after_tag, after_load_tag, after_record, after_value, after_load_value, after, push_cell, learn_cell}
 use Rattle.worker_machine.specs.RoundSteps.{IsViewOf, action_of, claimer_in, IsTold, IsHint, IsStep}
-use Rattle.worker_machine.specs.Invariant.{Among, Differ, Below, LinkTo, Links, Knows, open_cells, WordsRead, SawDone, SawDoneWith, ReadsDone, IsOwed, AreOwed, IsStack, IsMet, IsRightState}
+use Rattle.worker_machine.specs.Invariant.{TopIsOwed, open_cells, WordsRead, SawDone, SawDoneWith, ReadsDone, IsOwed, AreOwed, IsTied, IsMet, IsRightState}
 use Rattle.worker_machine.proofs.Coding.{tag_carried, tag_value, words_tell}
 use Rattle.worker_machine.proofs.Places.{number_some}
-use Rattle.worker_machine.proofs.Numbers.{KnownList, has_not, set_from}
-use Rattle.worker_machine.proofs.Knowing.{knows_more}
-use Rattle.worker_machine.proofs.Changing.{links_tail, stack_of, top_demands, met_popped}
+use Rattle.worker_machine.proofs.Numbers.{KnownList, set_from}
+use Rattle.worker_machine.proofs.Evaluating.{tail_evaluates, learnt_evaluates, pushed_evaluates, first_evaluates, none_known, start_evaluates}
+use Rattle.worker_machine.proofs.Changing.{top_evaluates, top_demands, met_popped, owed_popped}
 use Rattle.worker_machine.proofs.Why.{TopNeeds, WhyDo, why_is}
 
 -- why a cell is looked at
 
 pub data LookWhy (j : Job) (s : State) (i : ℕ) : Type 0 where
   demanded : TopNeeds j s i → has i (cells_of s.stack) ≡ false → LookWhy j s i
-  first : s.phase ≡ Free → s.stack ≡ [] → i < length j.cells → known_at s i ≡ None → LookWhy j s i
+  first : s.phase ≡ Free → s.stack ≡ [] → i < length j.pending.cells → known_at s i ≡ None → LookWhy j s i
 
 abbrev pub WhyStep : Job → State → Action → Type 0
 WhyStep j s (Action.Look i) = LookWhy j s i
@@ -62,7 +63,7 @@ from_is k i n e = go (first_unknown (drop i k) i) refl e
         let at : w.0 ≡ n = omega (arith, w.1) in
         (omega (arith, w.2), subst (λ q. get_or k q None ≡ None) at w.3)
 
-why_look : (j : Job) (s : State) (hint : Option ℕ) (a : Action) → length s.known ≡ length j.cells → IsHint j s hint → s.phase ≡ Free → s.stack ≡ [] → look_at_cell (option_or hint (first_from s.known (begins_at j))) ≡ Some a → WhyStep j s a
+why_look : (j : Job) (s : State) (hint : Option ℕ) (a : Action) → length s.known ≡ length j.pending.cells → IsHint j s hint → s.phase ≡ Free → s.stack ≡ [] → look_at_cell (option_or hint (first_from s.known (begins_at j))) ≡ Some a → WhyStep j s a
 why_look j s (Some i) a z fits p q e = (let same : Action.Look i ≡ a = cc in subst (WhyStep j s) same (first p q fits.0 fits.1))
 why_look j s None a z fits p q e = go (first_from s.known (begins_at j)) refl e
   where
@@ -84,7 +85,7 @@ step_of_do j s (Action.Publish i n c) w = w
 step_of_do j s (Action.LoadTag r) w = w
 step_of_do j s (Action.LoadValue r k) w = w
 
-pub why_step : (j : Job) (s : State) (hint : Option ℕ) (a : Action) → length s.known ≡ length j.cells → IsHint j s hint → action j s hint ≡ Some a → WhyStep j s a
+pub why_step : (j : Job) (s : State) (hint : Option ℕ) (a : Action) → length s.known ≡ length j.pending.cells → IsHint j s hint → action j s hint ≡ Some a → WhyStep j s a
 why_step j s hint a z fits e = go (next j s) refl e
   where
     go : (n : Next) → next j s ≡ n → action_from j s hint n ≡ Some a → WhyStep j s a
@@ -93,28 +94,25 @@ why_step j s hint a z fits e = go (next j s) refl e
     go Rest d f = (let w = why_is j s Rest d in why_look j s hint a z fits w.0 w.1 f)
 
 -- the action that an event was made by, and why
-pub why_event : (j : Job) (v : View) (s : State) (e : Event) → length s.known ≡ length j.cells → (st : IsStep j v s e) → WhyStep j s (action_of (claimer_in st.act) e)
+pub why_event : (j : Job) (v : View) (s : State) (e : Event) → length s.known ≡ length j.pending.cells → (st : IsStep j v s e) → WhyStep j s (action_of (claimer_in st.act) e)
 why_event j v s e z st = subst (WhyStep j s) st.made (why_step j s st.hint st.act z st.new st.called)
 
--- a cell that may come onto the stack
-pub record MayOpen (j : Job) (fs : List Entry) (i : ℕ) : Type 0 where
-  pub linked : LinkTo j i (cells_of fs)
-  pub differ : Differ (i ∷ cells_of fs)
-  pub below : Below (length j.cells) (i ∷ cells_of fs)
-
-may_look : (j : Job) (v : View) (s : State) (i : ℕ) → IsJob j → IsRightState j v s → LookWhy j s i → MayOpen j s.stack i
+-- a cell may come onto the stack
+may_look : (j : Job) (v : View) (s : State) (i : ℕ) → IsJob j → IsRightState j v s → LookWhy j s i → IsEvaluation j.pending s.known (i ∷ cells_of s.stack)
 may_look j v s i job h (demanded n off) =
     let t = n.asked.top in
-    let o = stack_of j v s t h in
-    subst (λ fs. MayOpen j fs i) (sym t.on_top) (record {
-      linked = top_demands j v s i job h n;
-      differ = (has_not i (cells_of (t.entry ∷ t.rest)) (subst (λ fs. has i (cells_of fs) ≡ false) t.on_top off), o.differ);
-      below = ((number_some j n.cell i n.is_number).0, o.below);
-    })
-may_look j v s i job h (first p q l u) = subst (λ fs. MayOpen j fs i) (sym q) (record { linked = tt; differ = ((λ k. k), tt); below = (l, tt) })
+    subst (λ fs. IsEvaluation j.pending s.known (i ∷ cells_of fs)) (sym t.on_top)
+    (pushed_evaluates j.pending s.known t.entry.cell i (cells_of t.rest) (top_demands j v s i job h n) (number_some j.pending n.cell i n.is_number).0 (subst (λ fs. has i (cells_of fs) ≡ false) t.on_top off) (top_evaluates j v s t h))
+may_look j v s i job h (first p q l u) =
+    let o : IsEvaluation j.pending s.known [] = subst (λ fs. IsEvaluation j.pending s.known (cells_of fs)) q (subst (λ p. IsEvaluation j.pending s.known (open_cells p (cells_of s.stack))) p h.evaluation) in
+    subst (λ fs. IsEvaluation j.pending s.known (i ∷ cells_of fs)) (sym q) (first_evaluates j.pending s.known i l o)
 
-may_open : (j : Job) (v : View) (fs : List Entry) (p : Phase) (i : ℕ) → open_cells p (cells_of fs) ≡ i ∷ cells_of fs → IsStack j v fs p → MayOpen j fs i
-may_open j v fs p i e h = record { linked = subst (Links j) e h.linked; differ = subst Differ e h.differ; below = subst (Below (length j.cells)) e h.below }
+-- the phase of a state, with its stack
+pub in_phase : (j : Job) (v : View) (s : State) (p : Phase) → s.phase ≡ p → IsRightState j v s → IsEvaluation j.pending s.known (open_cells p (cells_of s.stack))
+in_phase j v s p e h = subst (λ q. IsEvaluation j.pending s.known (open_cells q (cells_of s.stack))) e h.evaluation
+
+pub reads_in : (j : Job) (v : View) (s : State) (p : Phase) → s.phase ≡ p → IsRightState j v s → ReadsDone j v p
+reads_in j v s p e h = subst (ReadsDone j v) e h.tied.reading
 
 -- what was seen stays seen
 
@@ -135,41 +133,24 @@ reading_more j v e (Claiming i) h = tt
 reading_more j v e (ReadingTag i r) h = done_more j v e i r h
 reading_more j v e (ReadingValue i r t ws) h = (done_more j v e i r h.0, h.1)
 
-opens_more : (j : Job) (v : View) (e : Event) (fs : List Entry) (p : Phase) → IsStack j v fs p → IsStack j (grown e v) fs p
-opens_more j v e fs p h = record { linked = h.linked; differ = h.differ; below = h.below; reading = reading_more j v e p h.reading; owing = owing_more j v e fs h.owing }
-
 met_more : (v : View) (e : Event) (k : KnownList) (cs : List ℕ) → IsMet v k cs → IsMet (grown e v) k cs
 met_more v e k cs m = λ i q d. ⊎_elim (λ (x : SawDone v i). inl (x.0, seen_done_more e (held_by e v.held) v i x.0 x.1)) (λ a. inr a) (m i q d)
 
 met_pushed : (v : View) (k : KnownList) (c : ℕ) (cs : List ℕ) → IsMet v k cs → IsMet v k (c ∷ cs)
 met_pushed v k c cs m = λ i q d. ⊎_elim (λ x. inl x) (λ (a : Among i cs). inr (inr a)) (m i q d)
 
-met_learnt : (j : Job) (v : View) (k : KnownList) (c : ℕ) (r : Shown) (cs : List ℕ) → Knows j k → c < length j.cells → SawDone v c → IsMet v k cs → IsMet v (set k c (Some r)) cs
+met_learnt : (j : Job) (v : View) (k : KnownList) (c : ℕ) (r : Shown) (cs : List ℕ) → Knows j.pending k → c < length j.pending.cells → SawDone v c → IsMet v k cs → IsMet v (set k c (Some r)) cs
 met_learnt j v k c r cs h l d m = λ i q e. ⊎_elim (λ (p : (i ≡ c) × (q ≡ r)). inl (subst (SawDone v) (sym p.0) d)) (λ p. m i q p) (set_from k c i r q (subst (λ z. c < z) (sym h.sized) l) e)
-
--- the cell comes onto the stack, or its words are read
-
-opens_pushed : (j : Job) (v : View) (fs : List Entry) (i : ℕ) (o : Option ℕ) → MayOpen j fs i → IsOwed j v i o → AreOwed j v fs → IsStack j v (record { cell = i; owed = o } ∷ fs) Free
-opens_pushed j v fs i o m seen owing = record { linked = m.linked; differ = m.differ; below = m.below; reading = tt; owing = (seen, owing) }
-
-opens_claiming : (j : Job) (v : View) (fs : List Entry) (i : ℕ) → MayOpen j fs i → AreOwed j v fs → IsStack j v fs (Claiming i)
-opens_claiming j v fs i m owing = record { linked = m.linked; differ = m.differ; below = m.below; reading = tt; owing = owing }
-
-opens_reading : (j : Job) (v : View) (fs : List Entry) (i r : ℕ) → MayOpen j fs i → SawDoneWith j v i r → AreOwed j v fs → IsStack j v fs (ReadingTag i r)
-opens_reading j v fs i r m seen owing = record { linked = m.linked; differ = m.differ; below = m.below; reading = seen; owing = owing }
-
-opens_free : (j : Job) (v : View) (fs : List Entry) (i : ℕ) → MayOpen j fs i → AreOwed j v fs → IsStack j v fs Free
-opens_free j v fs i m owing = record { linked = links_tail j i (cells_of fs) m.linked; differ = m.differ.1; below = m.below.1; reading = tt; owing = owing }
 
 -- what the view says of the job
 
 pub workers_same : (j : Job) (v : View) → IsViewOf j v → v.workers ≡ j.workers
 workers_same j v h = ap (λ (t : Setup). t.workers) h.of_round
 
-pub cells_same : (j : Job) (v : View) → IsViewOf j v → v.cells ≡ j.cells
+pub cells_same : (j : Job) (v : View) → IsViewOf j v → v.cells ≡ j.pending.cells
 cells_same j v h = ap (λ (t : Setup). t.cells) h.of_round
 
-pub shown_same : (j : Job) (v : View) → IsViewOf j v → (i : ℕ) → shown_at v i ≡ shows j i
+pub shown_same : (j : Job) (v : View) → IsViewOf j v → (i : ℕ) → shown_at v i ≡ shows j.pending i
 shown_same j v h i = ap (λ (t : Setup). shown_in t i) h.of_round
 
 number_same : (j : Job) (v : View) → IsViewOf j v → me v ≡ j.worker
@@ -179,7 +160,7 @@ number_same j v h = ap (λ ns. slice_index ns 0) h.number
 abbrev IsWordIn : Job → CellWord → Type 0
 IsWordIn j CellWord.Stale = Unit {0}
 IsWordIn j (CellWord.Claimed c) = c < j.workers
-IsWordIn j (CellWord.Done p c r) = r < length j.cells + j.workers
+IsWordIn j (CellWord.Done p c r) = r < length j.pending.cells + j.workers
 
 word_in : (j : Job) (v : View) → IsViewOf j v → (w : CellWord) → InRound v w → IsWordIn j w
 word_in j v h CellWord.Stale t = tt
@@ -192,36 +173,36 @@ answer_in v (CellWord.Claimed c) t = t
 answer_in v (CellWord.Done p c r) t = t
 
 -- a word that a look or a claim found
-word_keeps : (j : Job) (v : View) (s : State) (i : ℕ) (w : CellWord) → Knows j s.known → MayOpen j s.stack i → AreOwed j v s.stack → IsMet v s.known (cells_of s.stack) → Seen v i w → ((r : ℕ) → IsDoneWith r w → SeenDone v i r) → IsWordIn j w → IsRightState j v (after_word s i w)
-word_keeps j v s i CellWord.Stale k m o met seen done low = record { knows = k; stack = opens_claiming j v s.stack i m o; met = met }
-word_keeps j v s i (CellWord.Claimed c) k m o met seen done low = record { knows = k; stack = opens_pushed j v s.stack i (Some c) m (seen, low) o; met = met_pushed v s.known i (cells_of s.stack) met }
-word_keeps j v s i (CellWord.Done p c r) k m o met seen done low = record { knows = k; stack = opens_reading j v s.stack i r m (done r refl, low) o; met = met }
+word_keeps : (j : Job) (v : View) (s : State) (i : ℕ) (w : CellWord) → IsEvaluation j.pending s.known (i ∷ cells_of s.stack) → AreOwed j v s.stack → IsMet v s.known (cells_of s.stack) → Seen v i w → ((r : ℕ) → IsDoneWith r w → SeenDone v i r) → IsWordIn j w → IsRightState j v (after_word s i w)
+word_keeps j v s i CellWord.Stale m o met seen done low = record { evaluation = m; tied = record { reading = tt; owing = o; met = met } }
+word_keeps j v s i (CellWord.Claimed c) m o met seen done low = record { evaluation = m; tied = record { reading = tt; owing = ((seen, low), o); met = met_pushed v s.known i (cells_of s.stack) met } }
+word_keeps j v s i (CellWord.Done p c r) m o met seen done low = record { evaluation = m; tied = record { reading = (done r refl, low); owing = o; met = met } }
+
+-- a result that was loaded
+learnt_keeps : (j : Job) (v : View) (s : State) (i k : ℕ) (r : Shown) → IsEvaluation j.pending s.known (i ∷ cells_of s.stack) → AreOwed j v s.stack → IsMet v s.known (cells_of s.stack) → SeenDone v i k → r ≡ shows j.pending i → ((n : ℕ) → r ≡ Shown.Cycle n → ⊥) → IsRightState j v (learn_cell i r s)
+learnt_keeps j v s i k r m o met seen e n = record {
+  evaluation = learnt_evaluates j.pending s.known (cells_of s.stack) i r (tail_evaluates j.pending s.known i (cells_of s.stack) m) m.below.0 e n;
+  tied = record { reading = tt; owing = o; met = met_learnt j v s.known i r (cells_of s.stack) m.knows m.below.0 (k, seen) met };
+}
 
 -- a tag that was loaded
-tag_keeps : (j : Job) (v : View) (s : State) (i r t : ℕ) → Knows j s.known → MayOpen j s.stack i → AreOwed j v s.stack → IsMet v s.known (cells_of s.stack) → SawDoneWith j v i r → t ≡ tag_of (shows j i) → IsRightState j v (after_tag s i r t)
-tag_keeps j v s i r t k m o met seen e = go (eqb t 7) refl (eqb t 6) refl
+tag_keeps : (j : Job) (v : View) (s : State) (i r t : ℕ) → IsEvaluation j.pending s.known (i ∷ cells_of s.stack) → AreOwed j v s.stack → IsMet v s.known (cells_of s.stack) → SawDoneWith j v i r → t ≡ tag_of (shows j.pending i) → IsRightState j v (after_tag s i r t)
+tag_keeps j v s i r t m o met seen e = go (eqb t 7) refl (eqb t 6) refl
   where
     go : (x : Bool) → eqb t 7 ≡ x → (y : Bool) → eqb t 6 ≡ y → IsRightState j v (cond x (learn_cell i Shown.ToCycle s) (cond y (push_cell i None s) (record s { phase = ReadingValue i r t [] })))
     go true p y q =
-        let carried : shows j i ≡ Shown.ToCycle = tag_carried (shows j i) (sym e ∙ eqb-true t 7 p) in
-        record {
-          knows = knows_more j s.known i Shown.ToCycle k m.below.0 (sym carried) (λ n z. cc);
-          stack = opens_free j v s.stack i m o;
-          met = met_learnt j v s.known i Shown.ToCycle (cells_of s.stack) k m.below.0 (r, seen.0) met;
-        }
-    go false p true q = record { knows = k; stack = opens_pushed j v s.stack i None m (r, seen.0) o; met = met_pushed v s.known i (cells_of s.stack) met }
+        let carried : shows j.pending i ≡ Shown.ToCycle = tag_carried (shows j.pending i) (sym e ∙ eqb-true t 7 p) in
+        learnt_keeps j v s i r Shown.ToCycle m o met seen.0 (sym carried) (λ n z. cc)
+    go false p true q = record { evaluation = m; tied = record { reading = tt; owing = ((r, seen.0), o); met = met_pushed v s.known i (cells_of s.stack) met } }
     go false p false q =
-        let x = tag_value (shows j i) (λ z. let d = eq-eqb t 7 (e ∙ z) in cc) (λ z. let d = eq-eqb t 6 (e ∙ z) in cc) in
+        let x = tag_value (shows j.pending i) (λ z. let d = eq-eqb t 7 (e ∙ z) in cc) (λ z. let d = eq-eqb t 6 (e ∙ z) in cc) in
         record {
-          knows = k;
-          stack = record {
-            linked = m.linked;
-            differ = m.differ;
-            below = m.below;
-            owing = o;
+          evaluation = m;
+          tied = record {
             reading = (seen, record { value = x.0; is_value = x.1; tag = e; more = tag_words_some t; same = λ n l. absurd (omega arith) });
+            owing = o;
+            met = met;
           };
-          met = met;
         }
 
 -- a word that was loaded
@@ -232,39 +213,32 @@ words_more f [] w h e (suc k) l = absurd (omega arith)
 words_more f (x ∷ ws) w h e zero l = h 0 (omega arith)
 words_more f (x ∷ ws) w h e (suc k) l = words_more (λ n. f (suc n)) ws w (λ n m. h (suc n) (omega arith)) e k (omega arith)
 
-value_keeps : (j : Job) (v : View) (s : State) (i r t : ℕ) (ws : List ℕ) (w : ℕ) → Knows j s.known → MayOpen j s.stack i → AreOwed j v s.stack → IsMet v s.known (cells_of s.stack) → SawDoneWith j v i r → WordsRead j i t ws → w ≡ value_of (shows j i) (length ws) → IsShown (shows j i) → IsRightState j v (after_value s i r t (ws ++ w ∷ []))
-value_keeps j v s i r t ws w k m o met seen read e fits = go (ltb (length (ws ++ w ∷ [])) (tag_words t)) refl
+value_keeps : (j : Job) (v : View) (s : State) (i r t : ℕ) (ws : List ℕ) (w : ℕ) → IsEvaluation j.pending s.known (i ∷ cells_of s.stack) → AreOwed j v s.stack → IsMet v s.known (cells_of s.stack) → SawDoneWith j v i r → WordsRead j i t ws → w ≡ value_of (shows j.pending i) (length ws) → IsShown (shows j.pending i) → IsRightState j v (after_value s i r t (ws ++ w ∷ []))
+value_keeps j v s i r t ws w m o met seen read e fits = go (ltb (length (ws ++ w ∷ [])) (tag_words t)) refl
   where
-    all : (n : ℕ) → n < length (ws ++ w ∷ []) → get_or (ws ++ w ∷ []) n 0 ≡ value_of (shows j i) n
-    all = words_more (value_of (shows j i)) ws w read.same e
+    all : (n : ℕ) → n < length (ws ++ w ∷ []) → get_or (ws ++ w ∷ []) n 0 ≡ value_of (shows j.pending i) n
+    all = words_more (value_of (shows j.pending i)) ws w read.same e
 
-    no_cycle : (n : ℕ) → shows j i ≡ Shown.Cycle n → ⊥
+    no_cycle : (n : ℕ) → shows j.pending i ≡ Shown.Cycle n → ⊥
     no_cycle n z = (let q = read.is_value in cc)
 
     go : (b : Bool) → ltb (length (ws ++ w ∷ [])) (tag_words t) ≡ b → IsRightState j v (cond b (record s { phase = ReadingValue i r t (ws ++ w ∷ []) }) (after_record s i (shown_read t (filled (ws ++ w ∷ [])))))
     go true p = record {
-      knows = k;
-      stack = record {
-        linked = m.linked;
-        differ = m.differ;
-        below = m.below;
-        owing = o;
+      evaluation = m;
+      tied = record {
         reading = (seen, record { value = read.value; is_value = read.is_value; tag = read.tag; more = ltb-true (length (ws ++ w ∷ [])) (tag_words t) p; same = all });
+        owing = o;
+        met = met;
       };
-      met = met;
     }
     go false p =
         let size = length_push ws w in
         let last = ltb-false (length (ws ++ w ∷ [])) (tag_words t) p in
         let more = read.more in
         let full : length (ws ++ w ∷ []) ≡ tag_words t = omega arith in
-        let count : length (ws ++ w ∷ []) ≡ record_words (shows j i) = full ∙ ap tag_words read.tag ∙ words_by_tag (shows j i) in
-        let told : shown_read t (filled (ws ++ w ∷ [])) ≡ Some (shows j i) = ap (λ z. shown_read z (filled (ws ++ w ∷ []))) read.tag ∙ words_tell (shows j i) (ws ++ w ∷ []) fits count all in
-        subst (λ x. IsRightState j v (after_record s i x)) (sym told) (record {
-          knows = knows_more j s.known i (shows j i) k m.below.0 refl no_cycle;
-          stack = opens_free j v s.stack i m o;
-          met = met_learnt j v s.known i (shows j i) (cells_of s.stack) k m.below.0 (r, seen.0) met;
-        })
+        let count : length (ws ++ w ∷ []) ≡ record_words (shows j.pending i) = full ∙ ap tag_words read.tag ∙ words_by_tag (shows j.pending i) in
+        let told : shown_read t (filled (ws ++ w ∷ [])) ≡ Some (shows j.pending i) = ap (λ z. shown_read z (filled (ws ++ w ∷ []))) read.tag ∙ words_tell (shows j.pending i) (ws ++ w ∷ []) fits count all in
+        subst (λ x. IsRightState j v (after_record s i x)) (sym told) (learnt_keeps j v s i r (shows j.pending i) m o met seen.0 refl no_cycle)
 
 -- a publish shows its cell done, won or lost
 publish_done : (v : View) (i r : ℕ) (a : Publish) → SawDone (grown (Event.Publish i r a) v) i
@@ -272,90 +246,77 @@ publish_done v i r Publish.Won = (r, seen_done_now (Event.Publish i r Publish.Wo
 publish_done v i r (Publish.Lost p c x) = (x, seen_done_now (Event.Publish i r (Publish.Lost p c x)) (held_by (Event.Publish i r (Publish.Lost p c x)) v.held) v i x (refl, refl))
 
 -- and takes the top off
-opens_taken : (j : Job) (v : View) (fs : List Entry) (p : Phase) → p ≡ Free → IsStack j v fs p → IsStack j v (pop fs) p
-opens_taken j v fs p e h = go fs (subst (λ q. IsStack j v fs q) e h)
-  where
-    go : (gs : List Entry) → IsStack j v gs Free → IsStack j v (pop gs) p
-    go [] k = subst (λ q. IsStack j v [] q) (sym e) k
-    go (f ∷ rest) k = subst (λ q. IsStack j v rest q) (sym e) (record { linked = links_tail j f.cell (cells_of rest) k.linked; differ = k.differ.1; below = k.below.1; reading = tt; owing = k.owing.1 })
+taken_evaluates : (j : Job) (v : View) (s : State) (i c : ℕ) (r : Shown) → TopIsOwed s i c r → IsRightState j v s → IsEvaluation j.pending s.known (open_cells s.phase (cells_of (pop s.stack)))
+taken_evaluates j v s i c r o h =
+    let all : IsEvaluation j.pending s.known (cells_of (o.entry ∷ o.rest)) = subst (λ fs. IsEvaluation j.pending s.known (cells_of fs)) o.on_top (in_phase j v s Free o.is_free h) in
+    subst (λ p. IsEvaluation j.pending s.known (open_cells p (cells_of (pop s.stack)))) (sym o.is_free) (subst (λ fs. IsEvaluation j.pending s.known (cells_of (pop fs))) (sym o.on_top) (tail_evaluates j.pending s.known o.entry.cell (cells_of o.rest) all))
 
 module _ (j : Job) (v : View) (s : State) (job : IsJob j) (of : IsViewOf j v) (h : IsRightState j v s) where
   owing_of : (e : Event) → AreOwed j (grown e v) s.stack
-  owing_of e = owing_more j v e s.stack h.stack.owing
+  owing_of e = owing_more j v e s.stack h.tied.owing
 
   met_of : (e : Event) → IsMet (grown e v) s.known (cells_of s.stack)
-  met_of e = met_more v e s.known (cells_of s.stack) h.met
+  met_of e = met_more v e s.known (cells_of s.stack) h.tied.met
 
-  claiming : (i : ℕ) → s.phase ≡ Claiming i → MayOpen j s.stack i
-  claiming i p = may_open j v s.stack s.phase i (ap (λ q. open_cells q (cells_of s.stack)) p) h.stack
+  claiming : (i : ℕ) → s.phase ≡ Claiming i → IsEvaluation j.pending s.known (i ∷ cells_of s.stack)
+  claiming i p = in_phase j v s (Claiming i) p h
 
-  same_but_held : (e : Event) → IsRightState j (grown e v) s
-  same_but_held e = record { knows = h.knows; stack = opens_more j v e s.stack s.phase h.stack; met = met_of e }
+  same_tied : (e : Event) → IsTied j (grown e v) s
+  same_tied e = record { reading = reading_more j v e s.phase h.tied.reading; owing = owing_of e; met = met_of e }
 
   won_keeps : (i : ℕ) → s.phase ≡ Claiming i → IsRightState j (grown (Event.Claim i Claim.Won) v) (push_cell i (Some j.worker) s)
   won_keeps i p =
       let e = Event.Claim i Claim.Won in
       let seen : Seen (grown e v) i (CellWord.Claimed j.worker) = subst (λ n. Seen (grown e v) i (CellWord.Claimed n)) (number_same j v of) (seen_now e (held_by e v.held) v i (CellWord.Claimed (me v)) (refl, refl)) in
-      record { knows = h.knows; stack = opens_pushed j (grown e v) s.stack i (Some j.worker) (claiming i p) (seen, job.worker) (owing_of e); met = met_pushed (grown e v) s.known i (cells_of s.stack) (met_of e) }
+      record { evaluation = claiming i p; tied = record { reading = tt; owing = ((seen, job.worker), owing_of e); met = met_pushed (grown e v) s.known i (cells_of s.stack) (met_of e) } }
 
   after_keeps : (c : ℕ) (e : Event) → WhyStep j s (action_of c e) → IsTold v s e → IsRightState j (grown e v) (after j s e)
   after_keeps c (Event.Look i w) why told =
       let e = Event.Look i w in
-      word_keeps j (grown e v) s i w h.knows (may_look j v s i job h why) (owing_of e) (met_of e) (seen_now e (held_by e v.held) v i w (refl, refl)) (λ r d. seen_done_now e (held_by e v.held) v i r (refl, d)) (word_in j v of w told)
+      word_keeps j (grown e v) s i w (may_look j v s i job h why) (owing_of e) (met_of e) (seen_now e (held_by e v.held) v i w (refl, refl)) (λ r d. seen_done_now e (held_by e v.held) v i r (refl, d)) (word_in j v of w told)
   after_keeps c (Event.Claim i Claim.Won) why told = won_keeps i why
   after_keeps c (Event.Claim i (Claim.Found w)) why told =
       let e = Event.Claim i (Claim.Found w) in
-      word_keeps j (grown e v) s i w h.knows (claiming i why) (owing_of e) (met_of e) (seen_now e (held_by e v.held) v i w (refl, refl)) (λ r d. seen_done_now e (held_by e v.held) v i r (refl, d)) (word_in j v of w (answer_in v w told))
-  after_keeps c (Event.TakeRecord r) why told = (let k = same_but_held (Event.TakeRecord r) in record { knows = k.knows; stack = k.stack; met = k.met })
-  after_keeps c (Event.StoreValue r k w) why told = (let k = same_but_held (Event.StoreValue r k w) in record { knows = k.knows; stack = k.stack; met = k.met })
-  after_keeps c (Event.StoreTag r w) why told = (let k = same_but_held (Event.StoreTag r w) in record { knows = k.knows; stack = k.stack; met = k.met })
+      word_keeps j (grown e v) s i w (claiming i why) (owing_of e) (met_of e) (seen_now e (held_by e v.held) v i w (refl, refl)) (λ r d. seen_done_now e (held_by e v.held) v i r (refl, d)) (word_in j v of w (answer_in v w told))
+  after_keeps c (Event.TakeRecord r) why told = (let k = same_tied (Event.TakeRecord r) in record { evaluation = h.evaluation; tied = record { reading = k.reading; owing = k.owing; met = k.met } })
+  after_keeps c (Event.StoreValue r k w) why told = (let k = same_tied (Event.StoreValue r k w) in record { evaluation = h.evaluation; tied = record { reading = k.reading; owing = k.owing; met = k.met } })
+  after_keeps c (Event.StoreTag r w) why told = (let k = same_tied (Event.StoreTag r w) in record { evaluation = h.evaluation; tied = record { reading = k.reading; owing = k.owing; met = k.met } })
   after_keeps c (Event.Publish i r a) why told =
       let e = Event.Publish i r a in
       let o = why.2 in
-      let k = same_but_held e in
+      let k = same_tied e in
       let done : SawDone (grown e v) o.entry.cell = subst (SawDone (grown e v)) (sym o.cell) (publish_done v i r a) in
       record {
-        knows = h.knows;
-        stack = opens_taken j (grown e v) s.stack s.phase o.is_free k.stack;
-        met = subst (λ fs. IsMet (grown e v) s.known (cells_of (pop fs))) (sym o.on_top) (met_popped (grown e v) s.known o.entry.cell (cells_of o.rest) done (subst (λ fs. IsMet (grown e v) s.known (cells_of fs)) o.on_top k.met));
+        evaluation = taken_evaluates j v s i c why.1 o h;
+        tied = record { reading = k.reading; owing = owed_popped j (grown e v) s.stack k.owing; met = subst (λ fs. IsMet (grown e v) s.known (cells_of (pop fs))) (sym o.on_top) (met_popped (grown e v) s.known o.entry.cell (cells_of o.rest) done (subst (λ fs. IsMet (grown e v) s.known (cells_of fs)) o.on_top k.met)) };
       }
   after_keeps c (Event.LoadTag r t) why told =
       let e = Event.LoadTag r t in
       let i = why.0 in
-      let o : IsStack j v s.stack (ReadingTag i r) = subst (λ p. IsStack j v s.stack p) why.1 h.stack in
-      let tag : t ≡ tag_of (shows j i) = (told i o.reading.0).0 ∙ ap tag_of (shown_same j v of i) in
+      let reads : SawDoneWith j v i r = reads_in j v s (ReadingTag i r) why.1 h in
+      let tag : t ≡ tag_of (shows j.pending i) = (told i reads.0).0 ∙ ap tag_of (shown_same j v of i) in
       subst (λ p. IsRightState j (grown e v) (after_load_tag s t p)) (sym why.1)
-      (tag_keeps j (grown e v) s i r t h.knows (may_open j v s.stack (ReadingTag i r) i refl o) (owing_of e) (met_of e) (done_more j v e i r o.reading) tag)
+      (tag_keeps j (grown e v) s i r t (in_phase j v s (ReadingTag i r) why.1 h) (owing_of e) (met_of e) (done_more j v e i r reads) tag)
   after_keeps c (Event.LoadValue r k w) why told =
       let e = Event.LoadValue r k w in
       let i = why.0 in
       let t = why.1 in
       let ws = why.2 in
-      let o : IsStack j v s.stack (ReadingValue i r t ws) = subst (λ p. IsStack j v s.stack p) why.3 h.stack in
-      let read = o.reading.1 in
+      let reads : SawDoneWith j v i r × WordsRead j i t ws = reads_in j v s (ReadingValue i r t ws) why.3 h in
+      let read = reads.1 in
       let more = read.more in
-      let count : tag_words t ≡ record_words (shows j i) = ap tag_words read.tag ∙ words_by_tag (shows j i) in
+      let count : tag_words t ≡ record_words (shows j.pending i) = ap tag_words read.tag ∙ words_by_tag (shows j.pending i) in
       let at = why.4 in
-      let low : k < record_words (shows j i) = omega arith in
-      let all : k < record_words (shows j i) → (w ≡ value_of (shows j i) k) × IsShown (shows j i) = subst (λ z. k < record_words z → (w ≡ value_of z k) × IsShown z) (shown_same j v of i) (told i o.reading.0.0) in
+      let low : k < record_words (shows j.pending i) = omega arith in
+      let all : k < record_words (shows j.pending i) → (w ≡ value_of (shows j.pending i) k) × IsShown (shows j.pending i) = subst (λ z. k < record_words z → (w ≡ value_of z k) × IsShown z) (shown_same j v of i) (told i reads.0.0) in
       let one = all low in
       subst (λ p. IsRightState j (grown e v) (after_load_value s w p)) (sym why.3)
-      (value_keeps j (grown e v) s i r t ws w h.knows (may_open j v s.stack (ReadingValue i r t ws) i refl o) (owing_of e) (met_of e) (done_more j v e i r o.reading.0) read (one.0 ∙ ap (value_of (shows j i)) at) one.1)
+      (value_keeps j (grown e v) s i r t ws w (in_phase j v s (ReadingValue i r t ws) why.3 h) (owing_of e) (met_of e) (done_more j v e i r reads.0) read (one.0 ∙ ap (value_of (shows j.pending i)) at) one.1)
 
   -- one step, found in the settled state
   pub step_right : (e : Event) → IsStep j v s e → IsRightState j (grown e v) (after j s e)
-  step_right e st = after_keeps (claimer_in st.act) e (why_event j v s e h.knows.sized st) st.told
+  step_right e st = after_keeps (claimer_in st.act) e (why_event j v s e h.evaluation.knows.sized st) st.told
 
 -- the start
-
-none_known : (n i : ℕ) (r : Shown) → get_or (replicate n None) i None ≡ Some r → ⊥
-none_known zero i r e = cc
-none_known (suc n) zero r e = cc
-none_known (suc n) (suc i) r e = none_known n i r e
-
 pub start_right : (j : Job) (v : View) → IsRightState j v (start j)
-start_right j v = record {
-  knows = record { sized = length-replicate (length j.cells) None; right = λ i r e. absurd (none_known (length j.cells) i r e); whole = λ i n y e p. absurd (none_known (length j.cells) i (Shown.Cycle n) e) };
-  stack = record { linked = tt; differ = tt; below = tt; reading = tt; owing = tt };
-  met = λ i r e. absurd (none_known (length j.cells) i r e);
-}
+start_right j v = record { evaluation = start_evaluates j.pending; tied = record { reading = tt; owing = tt; met = λ i r e. absurd (none_known (length j.pending.cells) i r e) } }

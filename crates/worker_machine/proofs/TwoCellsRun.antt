@@ -25,15 +25,15 @@ use Rattle.worker_machine.specs.TwoCells.{cell, two_cells, first_view, its_event
 
 -- the job
 
-has_formula : (a : Addr) → In a two_cells.cells → IsSome (formula_at two_cells.book a)
+has_formula : (a : Addr) → In a two_cells.pending.cells → IsSome (formula_at two_cells.pending.book a)
 unfolding formula_at
-has_formula a (inl e) = subst (λ z. IsSome (formula_at two_cells.book z)) (sym e) refl
-has_formula a (inr (inl e)) = subst (λ z. IsSome (formula_at two_cells.book z)) (sym e) refl
+has_formula a (inl e) = subst (λ z. IsSome (formula_at two_cells.pending.book z)) (sym e) refl
+has_formula a (inr (inl e)) = subst (λ z. IsSome (formula_at two_cells.pending.book z)) (sym e) refl
 has_formula a (inr (inr k)) = absurd k
 
-all_formulas : (c a : Addr) → Mentions two_cells.book c a → In c two_cells.cells
+all_formulas : (c a : Addr) → Mentions two_cells.pending.book c a → In c two_cells.pending.cells
 unfolding formulas
-all_formulas c a m = in_formulas two_cells.book c m.tree m.is_formula
+all_formulas c a m = in_formulas two_cells.pending.book c m.tree m.is_formula
 
 is_job : IsJob two_cells
 is_job = record {
@@ -47,7 +47,7 @@ is_job = record {
   worker = omega arith;
 }
 
-shows_cycle : shown two_cells.book (cell 2) ≡ Shown.Cycle 2
+shows_cycle : shown two_cells.pending.book (cell 2) ≡ Shown.Cycle 2
 unfolding resolve formula_at own ask_cell formulas finished need shown
 shows_cycle = refl
 
@@ -121,7 +121,7 @@ unfolding tag_of
 cycle_told s e = subst (λ z. (6 ≡ tag_of z) × IsShown z) (sym e) (refl, omega arith)
 
 tag_told : (i : ℕ) → SeenDone v3 i 1 → (6 ≡ tag_of (shown_at v3 i)) × IsShown (shown_at v3 i)
-tag_told i seen = subst (λ z. (6 ≡ tag_of (shown_at v3 z)) × IsShown (shown_at v3 z)) (seen_b1 i seen) (cycle_told (shown two_cells.book (cell 2)) shows_cycle)
+tag_told i seen = subst (λ z. (6 ≡ tag_of (shown_at v3 z)) × IsShown (shown_at v3 z)) (seen_b1 i seen) (cycle_told (shown two_cells.pending.book (cell 2)) shows_cycle)
 
 step_4 : IsStep two_cells v3 (settle two_cells s3) (Event.LoadTag 1 6)
 unfolding resolve formula_at own ask_cell tag_of stored_words cell_number next settle begins_at

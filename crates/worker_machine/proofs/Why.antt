@@ -15,8 +15,9 @@ use Rattle.worker_machine.specs.declared.action.Action.{Action}
 use Rattle.cell_words.specs.Records.{record_words, tag_of, value_of}
 use Rattle.worker_machine.specs.Invariant.{TopIsOwed}
 use Rattle.worker_machine.specs.Jobs.{Job, cell_at, cell_number}
-use Rattle.worker_machine.specs.Machine.{next_answered, next_needed, next_pending, next_unknown, next, next_free, next_in, next_top, next_known, next_store, values}
-use Rattle.worker_machine.specs.States.{Claiming, Free, Phase, ReadingTag, ReadingValue, State, cells_of, has, known_at}
+use Rattle.worker_machine.specs.Evaluation.{cells_of, has, values}
+use Rattle.worker_machine.specs.Machine.{next_answered, next_needed, next_pending, next_unknown, next, next_free, next_in, next_top, next_known, next_store}
+use Rattle.worker_machine.specs.States.{Claiming, Free, Phase, ReadingTag, ReadingValue, State, known_at}
 
 pub record Top (s : State) : Type 0 where
   pub entry : Entry
@@ -34,19 +35,19 @@ pub record TopKnown (s : State) : Type 0 where
 pub record TopGives (j : Job) (s : State) (o : Option Asked) : Type 0 where
   pub top : Top s
   pub unknown : known_at s top.entry.cell ≡ None
-  pub gives : ask_cell j.book (values j s.known) (cell_at j top.entry.cell) ≡ o
+  pub gives : ask_cell j.pending.book (values j.pending s.known) (cell_at j.pending top.entry.cell) ≡ o
 
 -- the top cell needs a pending cell that is not known
 pub record TopNeeds (j : Job) (s : State) (i : ℕ) : Type 0 where
   pub cell : Addr
   pub asked : TopGives j s (Some (Needs cell))
-  pub is_number : cell_number j cell ≡ Some i
+  pub is_number : cell_number j.pending cell ≡ Some i
   pub lacking : known_at s i ≡ None
 
 -- the top cell needs a cell that has no value
 pub data Marked (j : Job) (s : State) : Type 0 where
-  other : (x : Addr) → TopGives j s (Some (Needs x)) → cell_number j x ≡ None → Marked j s
-  known : (x : Addr) → TopGives j s (Some (Needs x)) → (i : ℕ) → cell_number j x ≡ Some i → (r : Shown) → known_at s i ≡ Some r → Marked j s
+  other : (x : Addr) → TopGives j s (Some (Needs x)) → cell_number j.pending x ≡ None → Marked j s
+  known : (x : Addr) → TopGives j s (Some (Needs x)) → (i : ℕ) → cell_number j.pending x ≡ Some i → (r : Shown) → known_at s i ≡ Some r → Marked j s
   nothing : TopGives j s None → Marked j s
 
 abbrev pub WhyLearn : Job → State → Shown → Type 0
@@ -89,17 +90,17 @@ module _ (j : Job) (s : State) where
       go true e = (n, e)
       go false e = (n, e)
 
-  why_needed_pending : (x : Addr) → TopGives j s (Some (Needs x)) → (i : ℕ) → cell_number j x ≡ Some i → (k : Option Shown) → known_at s i ≡ k → WhyNext j s (next_pending s i k)
+  why_needed_pending : (x : Addr) → TopGives j s (Some (Needs x)) → (i : ℕ) → cell_number j.pending x ≡ Some i → (k : Option Shown) → known_at s i ≡ k → WhyNext j s (next_pending s i k)
   why_needed_pending x g i p (Some r) e = known x g i p r e
   why_needed_pending x g i p None e = why_new i (record { cell = x; asked = g; is_number = p; lacking = e })
 
-  why_needed : (x : Addr) → TopGives j s (Some (Needs x)) → (o : Option ℕ) → cell_number j x ≡ o → WhyNext j s (next_needed s o)
+  why_needed : (x : Addr) → TopGives j s (Some (Needs x)) → (o : Option ℕ) → cell_number j.pending x ≡ o → WhyNext j s (next_needed s o)
   why_needed x g None p = other x g p
   why_needed x g (Some i) p = why_needed_pending x g i p (known_at s i) refl
 
   why_answered : (o : Option Asked) → TopGives j s o → WhyNext j s (next_answered j s o)
   why_answered (Some (Val v)) g = g
-  why_answered (Some (Needs x)) g = why_needed x g (cell_number j x) refl
+  why_answered (Some (Needs x)) g = why_needed x g (cell_number j.pending x) refl
   why_answered None g = nothing g
 
   why_storing : (i c : ℕ) (r : Shown) → TopIsOwed s i c r → (h : Option Store) → s.held ≡ h → WhyNext j s (next_store i c r h)
@@ -118,7 +119,7 @@ module _ (j : Job) (s : State) where
 
   why_top : (t : Top s) → (k : Option Shown) → known_at s t.entry.cell ≡ k → WhyNext j s (next_top j s t.entry k)
   why_top t (Some r) e = why_top_known (record { top = t; result = r; is_known = e }) t.entry.owed refl
-  why_top t None e = why_answered (ask_cell j.book (values j s.known) (cell_at j t.entry.cell)) (record { top = t; unknown = e; gives = refl })
+  why_top t None e = why_answered (ask_cell j.pending.book (values j.pending s.known) (cell_at j.pending t.entry.cell)) (record { top = t; unknown = e; gives = refl })
 
   why_free : s.phase ≡ Free → (fs : List Entry) → s.stack ≡ fs → WhyNext j s (next_free j s fs)
   why_free p [] e = (p, e)

@@ -8,11 +8,12 @@ use Rattle.worker_machine.specs.declared.action.Action.{Action}
 use Rattle.worker_machine.specs.declared.action.Change.{Change}
 use Rattle.worker_machine.specs.declared.action.Next.TheVariants.{Alter}
 use Rattle.worker_machine.specs.Jobs.{Job, IsJob}
+use Rattle.worker_machine.specs.Evaluation.{KnowsAll}
 use Rattle.worker_machine.specs.States.{State, held_number}
 use Rattle.worker_machine.specs.Machine.{action, after_change, next, settle}
 use Rattle.worker_machine.specs.RoundSteps.{IsViewOf, IsAllowed, IsHint}
 use Rattle.worker_machine.specs.Invariant.{IsWorker}
-use Rattle.worker_machine.specs.Runs.{IsRun, at_start, further, IsSettled, ResultsRight, StepsAllowed, EndsWithAll, FewSteps, WorkerBegins, ChangesKeep, StepsKeep, SettlesInTurn, KnowsAll}
+use Rattle.worker_machine.specs.Runs.{IsRun, at_start, further, IsSettled, ResultsRight, StepsAllowed, EndsWithAll, FewSteps, WorkerBegins, ChangesKeep, StepsKeep, SettlesInTurn}
 use Rattle.worker_machine.proofs.Settle.{settle_keeps, settle_ends, settle_step, settle_stays}
 use Rattle.worker_machine.proofs.Changing.{change_keeps, right_within}
 use Rattle.worker_machine.proofs.Stepping.{why_step, step_right, start_right}
@@ -43,8 +44,8 @@ steps_keep j v s e h st = record {
   job = h.job;
   view = view_stays j v e h.view;
   state = step_right j v s h.job h.view h.state e st;
-  writes = step_writes j v s e h.state.knows.sized h.writes st;
-  bounded = step_bounded j v s e h.state.knows.sized st h.bounded;
+  writes = step_writes j v s e h.state.evaluation.knows.sized h.writes st;
+  bounded = step_bounded j v s e h.state.evaluation.knows.sized st h.bounded;
 }
 
 pub settles_in_turn : SettlesInTurn
@@ -53,9 +54,9 @@ settles_in_turn j v s h = ((λ c e. sym (settle_step j s c (right_within j v s h
 -- what it gives, in a settled state
 
 pub worker_allowed : (j : Job) (v : View) (s : State) → IsWorker j v s → (hint : Option ℕ) → IsHint j s hint → (a : Action) → action j s hint ≡ Some a → IsAllowed j v (held_number s.held) a
-worker_allowed j v s h hint new a called = step_allowed j v s a h.state h.writes (why_step j s hint a h.state.knows.sized new called)
+worker_allowed j v s h hint new a called = step_allowed j v s a h.state h.writes (why_step j s hint a h.state.evaluation.knows.sized new called)
 
-pub worker_ends : (j : Job) (v : View) (s : State) → IsWorker j v s → IsSettled j s → (hint : Option ℕ) → action j s hint ≡ None → KnowsAll j s × SeesAllDone (length j.cells) v
+pub worker_ends : (j : Job) (v : View) (s : State) → IsWorker j v s → IsSettled j s → (hint : Option ℕ) → action j s hint ≡ None → KnowsAll j.pending s.known × SeesAllDone (length j.pending.cells) v
 worker_ends j v s h settled hint e = ends_with_all j v s hint h.state settled e
 
 -- a run keeps it
@@ -65,7 +66,7 @@ run_works j job v s (at_start w f) = work_begins j job v f
 run_works j job v s (further w t e r st) = steps_keep j w (settle j t) e (settle_works j w t (run_works j job w t r)) st
 
 pub results_right : ResultsRight
-results_right j job v s r = (let h = run_works j job v s r in (h.state.knows.right, (settle_works j v s h).state.knows.right))
+results_right j job v s r = (let h = run_works j job v s r in (h.state.evaluation.knows.right, (settle_works j v s h).state.evaluation.knows.right))
 
 pub steps_allowed : StepsAllowed
 steps_allowed j job v s r = worker_allowed j v (settle j s) (settle_works j v s (run_works j job v s r))

@@ -22,10 +22,10 @@ use Rattle.worker_machine.specs.Jobs.{Job, shows}
 use Rattle.worker_machine.specs.States.{State, Phase, Free, Claiming, ReadingTag, ReadingValue, known_at, top_result, held_number}
 use Rattle.worker_machine.specs.Machine.{after_change, next, after, after_word, after_load_tag, after_record, after_value, after_load_value, learn_cell, push_cell, store_after, with_word, with_tag}
 use Rattle.worker_machine.specs.RoundSteps.{IsAllowed, action_of, claimer_in, IsTold, IsStep}
-use Rattle.worker_machine.specs.Invariant.{IsStack, AreOwed, IsOwed, IsRightState, TopIsOwed, HoldsPart, IsUnwritten, HoldsRecord, HoldsNoted, HoldsAsNoted}
+use Rattle.worker_machine.specs.Invariant.{AreOwed, IsOwed, IsRightState, TopIsOwed, HoldsPart, IsUnwritten, HoldsRecord, HoldsNoted, HoldsAsNoted}
 use Rattle.worker_machine.proofs.Places.{number_some}
 use Rattle.worker_machine.proofs.Numbers.{known_below}
-use Rattle.worker_machine.proofs.Stepping.{LookWhy, demanded, first, WhyStep, why_event}
+use Rattle.worker_machine.proofs.Stepping.{in_phase, reads_in, LookWhy, demanded, first, WhyStep, why_event}
 use Rattle.worker_machine.proofs.Why.{Top, Marked, Storing, other, known, nothing, why_is}
 
 -- a top cell that is owed is neither unknown nor owing nothing
@@ -194,14 +194,14 @@ after_writes j v s x (Event.LoadValue r k w) why told h =
     over v (grown (Event.LoadValue r k w) v) u u.held refl
     (subst (λ p. HoldsAsNoted v (after_load_value s w p)) (sym why.3) (after_value_writes v s why.0 r why.1 (why.2 ++ w ∷ []) (λ n c q o. by_phase s (ReadingValue why.0 r why.1 why.2) n c q why.3 (λ z. cc) o) h))
 
-pub step_writes : (j : Job) (v : View) (s : State) (e : Event) → length s.known ≡ length j.cells → HoldsAsNoted v s → IsStep j v s e → HoldsAsNoted (grown e v) (after j s e)
+pub step_writes : (j : Job) (v : View) (s : State) (e : Event) → length s.known ≡ length j.pending.cells → HoldsAsNoted v s → IsStep j v s e → HoldsAsNoted (grown e v) (after j s e)
 step_writes j v s e z w st = after_writes j v s (claimer_in st.act) e (why_event j v s e z st) st.told w
 
 -- what the round asks of each step
 
 owing_top : (j : Job) (v : View) (s : State) (i c : ℕ) (r : Shown) → IsRightState j v s → TopIsOwed s i c r → IsOwed j v i (Some c)
 owing_top j v s i c r h o =
-    let all : AreOwed j v (o.entry ∷ o.rest) = subst (AreOwed j v) o.on_top h.stack.owing in
+    let all : AreOwed j v (o.entry ∷ o.rest) = subst (AreOwed j v) o.on_top h.tied.owing in
     let top : IsOwed j v o.entry.cell (Some c) = subst (IsOwed j v o.entry.cell) o.owed all.0 in
     subst (λ n. IsOwed j v n (Some c)) o.cell top
 
@@ -220,9 +220,9 @@ rec_held : (v : View) (s : State) (h : Store) → HoldsRecord v s h → rec_of v
 rec_held v s h d = ap rec_of d.is_held ∙ d.rec
 
 pub step_allowed : (j : Job) (v : View) (s : State) (a : Action) → IsRightState j v s → HoldsAsNoted v s → WhyStep j s a → IsAllowed j v (held_number s.held) a
-step_allowed j v s (Action.Look i) h w (demanded n off) = (number_some j n.cell i n.is_number).0
+step_allowed j v s (Action.Look i) h w (demanded n off) = (number_some j.pending n.cell i n.is_number).0
 step_allowed j v s (Action.Look i) h w (first p q l u) = l
-step_allowed j v s (Action.Claim i) h w why = (let o : IsStack j v s.stack (Claiming i) = subst (λ p. IsStack j v s.stack p) why h.stack in o.below.0)
+step_allowed j v s (Action.Claim i) h w why = (let o = in_phase j v s (Claiming i) why h in o.below.0)
 step_allowed j v s Action.TakeRecord h w why = (ap held_number why.4, subst (λ z. HoldsNoted v s z) why.4 w)
 step_allowed j v s (Action.StoreValue n k x) h w why =
     let d : HoldsRecord v s why.0 = subst (λ z. HoldsNoted v s z) why.2.held w in
@@ -237,9 +237,9 @@ step_allowed j v s (Action.Publish i n c) h w why =
     let d : HoldsRecord v s why.0 = subst (λ z. HoldsNoted v s z) why.3 w in
     let f = so_far s i c why.1 why.0 d.holds why.2 d.stored in
     let l = ltb-false why.0.stored (record_words why.1) why.5 in
-    let right : why.1 ≡ shows j i = h.knows.right i why.1 why.2.is_known in
+    let right : why.1 ≡ shows j.pending i = h.evaluation.knows.right i why.1 why.2.is_known in
     let low = known_below s.known i why.1 why.2.is_known in
-    let size = h.knows.sized in
+    let size = h.evaluation.knows.sized in
     let owed = owing_top j v s i c why.1 h why.2 in
     let tag = f.tag why.6 in
     let spelt : SpeltIn why.1 (d.holds ∷ []) = spelt_one why.1 d.holds tag.1 tag.0 (λ k m. f.words k (omega arith)) in (
@@ -250,10 +250,10 @@ step_allowed j v s (Action.Publish i n c) h w why =
       owed.0,
       subst (λ r. SpeltIn r v.held) right (subst (SpeltIn why.1) (sym d.is_held) spelt),
     )
-step_allowed j v s (Action.LoadTag r) h w why = (let o : IsStack j v s.stack (ReadingTag why.0 r) = subst (λ p. IsStack j v s.stack p) why.1 h.stack in o.reading.1)
+step_allowed j v s (Action.LoadTag r) h w why = (let o = reads_in j v s (ReadingTag why.0 r) why.1 h in o.1)
 step_allowed j v s (Action.LoadValue r k) h w why =
-    let o : IsStack j v s.stack (ReadingValue why.0 r why.1 why.2) = subst (λ p. IsStack j v s.stack p) why.3 h.stack in
-    let more = o.reading.1.more in
+    let o = reads_in j v s (ReadingValue why.0 r why.1 why.2) why.3 h in
+    let more = o.1.more in
     let few = tag_words_small why.1 in
     let e = why.4 in
-    (o.reading.0.1, omega arith)
+    (o.0.1, omega arith)

@@ -1,44 +1,21 @@
 -- What holds of a worker between any two of its steps.
 use Rattle.std.specs.Prelude.{◌≡◌, ℕ, ◌+◌, ◌*◌, ◌<◌, ◌≤◌, ◌⊎◌, true, false, Option, Some, None, List, [], ◌∷◌, length, get_or}
-use Rattle.cell_values.specs.declared.address.Addr.{Addr}
 use Rattle.cell_values.specs.declared.values.Value.{Value}
 use Rattle.cell_values.specs.declared.values.Shown.{Shown}
 use Rattle.cell_words.specs.declared.TheConstants.{WORDS}
 use Rattle.cell_words.specs.declared.cell_word.CellWord.{CellWord}
 use Rattle.cell_words.specs.Records.{IsShown, tag_of, tag_words, value_of}
-use Rattle.demand_spec.specs.Book.{need}
-use Rattle.demand_spec.specs.Laws.{Demands}
 use Rattle.claim_core.specs.declared.view.Held.{Held}
 use Rattle.claim_core.specs.declared.view.View.{View}
 use Rattle.claim_core.specs.Rule.{Seen, SeenDone}
 use Rattle.claim_core.specs.HeldRecords.{held_value}
 use Rattle.worker_machine.specs.declared.state.Entry.{Entry}
 use Rattle.worker_machine.specs.declared.state.Store.{Store}
-use Rattle.worker_machine.specs.Jobs.{Job, IsJob, cell_at, shows}
-use Rattle.worker_machine.specs.States.{Phase, Free, Claiming, ReadingTag, ReadingValue, State, known_at, cells_of}
+use Rattle.worker_machine.specs.Jobs.{Job, IsJob, shows}
+use Rattle.worker_machine.specs.Evaluation.{Among, IsEvaluation, cells_of}
+use Rattle.worker_machine.specs.States.{Phase, Free, Claiming, ReadingTag, ReadingValue, State, known_at}
 use Rattle.worker_machine.specs.RoundSteps.{IsViewOf}
 use Rattle.worker_machine.specs.Left.{left}
-
--- the number is one of these
-abbrev pub Among : ℕ → List ℕ → Type 0
-Among n [] = ⊥
-Among n (x ∷ xs) = (n ≡ x) ⊎ Among n xs
-
--- no number stands twice
-abbrev pub Differ : List ℕ → Type 0
-Differ [] = Unit {0}
-Differ (x ∷ xs) = (Among x xs → ⊥) × Differ xs
-
--- all are below m
-abbrev pub Below : ℕ → List ℕ → Type 0
-Below m [] = Unit {0}
-Below m (x ∷ xs) = (x < m) × Below m xs
-
--- each result is what the book shows, and from a known cell of a cycle `need` leads to a known cell of a cycle
-pub record Knows (j : Job) (known : List (Option Shown)) : Type 0 where
-  pub sized : length known ≡ length j.cells
-  pub right : (i : ℕ) (r : Shown) → get_or known i None ≡ Some r → r ≡ shows j i
-  pub whole : (i n : ℕ) (y : Addr) → get_or known i None ≡ Some (Shown.Cycle n) → need j.book (cell_at j i) ≡ Some y → (m : ℕ) × (x : ℕ) × (cell_at j m ≡ y) × (get_or known m None ≡ Some (Shown.Cycle x))
 
 -- the cell that is looked at, and then those of the stack
 abbrev pub open_cells : Phase → List ℕ → List ℕ
@@ -47,31 +24,21 @@ open_cells (Claiming i) cs = i ∷ cs
 open_cells (ReadingTag i r) cs = i ∷ cs
 open_cells (ReadingValue i r t words) cs = i ∷ cs
 
--- the cell x is demanded by the first of these, which is demanded by the next
-abbrev pub LinkTo : Job → ℕ → List ℕ → Type 0
-LinkTo j x [] = Unit {0}
-LinkTo j x (y ∷ rest) = Demands j.book (cell_at j y) (cell_at j x) × LinkTo j y rest
-
--- each of these cells is demanded by the one behind it
-abbrev pub Links : Job → List ℕ → Type 0
-Links j [] = Unit {0}
-Links j (x ∷ rest) = LinkTo j x rest
-
 -- a cell was seen done
 abbrev pub SawDone : View → ℕ → Type 0
 SawDone v i = (k : ℕ) × SeenDone v i k
 
 -- a cell was seen done with a record of the round
 abbrev pub SawDoneWith : Job → View → ℕ → ℕ → Type 0
-SawDoneWith j v i r = SeenDone v i r × (r < length j.cells + j.workers)
+SawDoneWith j v i r = SeenDone v i r × (r < length j.pending.cells + j.workers)
 
 -- the tag and these first value words are those of the value that the book shows at the cell i, and more are to come
 pub record WordsRead (j : Job) (i t : ℕ) (words : List ℕ) : Type 0 where
   pub value : Value
-  pub is_value : shows j i ≡ Shown.Val value
-  pub tag : t ≡ tag_of (shows j i)
+  pub is_value : shows j.pending i ≡ Shown.Val value
+  pub tag : t ≡ tag_of (shows j.pending i)
   pub more : length words < tag_words t
-  pub same : (k : ℕ) → k < length words → get_or words k 0 ≡ value_of (shows j i) k
+  pub same : (k : ℕ) → k < length words → get_or words k 0 ≡ value_of (shows j.pending i) k
 
 -- a record that is read is that of a cell seen done
 abbrev pub ReadsDone : Job → View → Phase → Type 0
@@ -90,23 +57,20 @@ abbrev pub AreOwed : Job → View → List Entry → Type 0
 AreOwed j v [] = Unit {0}
 AreOwed j v (f ∷ rest) = IsOwed j v f.cell f.owed × AreOwed j v rest
 
--- the cells that were begun and are not done with: each is demanded by the one below it, and no cell stands twice
-pub record IsStack (j : Job) (v : View) (stack : List Entry) (phase : Phase) : Type 0 where
-  pub linked : Links j (open_cells phase (cells_of stack))
-  pub differ : Differ (open_cells phase (cells_of stack))
-  pub below : Below (length j.cells) (open_cells phase (cells_of stack))
-  pub reading : ReadsDone j v phase
-  pub owing : AreOwed j v stack
-
 -- a known cell was seen done, or is on the stack
 abbrev pub IsMet : View → List (Option Shown) → List ℕ → Type 0
 IsMet v known cs = (i : ℕ) (r : Shown) → get_or known i None ≡ Some r → SawDone v i ⊎ Among i cs
 
+-- what ties the evaluation to the round: what is read was seen done, who is owed was seen, and where each known cell was met
+pub record IsTied (j : Job) (v : View) (s : State) : Type 0 where
+  pub reading : ReadsDone j v s.phase
+  pub owing : AreOwed j v s.stack
+  pub met : IsMet v s.known (cells_of s.stack)
+
 -- what is known is right, and where it comes from
 pub record IsRightState (j : Job) (v : View) (s : State) : Type 0 where
-  pub knows : Knows j s.known
-  pub stack : IsStack j v s.stack s.phase
-  pub met : IsMet v s.known (cells_of s.stack)
+  pub evaluation : IsEvaluation j.pending s.known (open_cells s.phase (cells_of s.stack))
+  pub tied : IsTied j v s
 
 -- the top cell i is known by r, and c is owed
 pub record TopIsOwed (s : State) (i c : ℕ) (r : Shown) : Type 0 where
@@ -149,7 +113,7 @@ HoldsAsNoted v s = HoldsNoted v s s.held
 
 -- the steps that were made and those that can come are few
 abbrev pub IsBounded : Job → View → State → Type 0
-IsBounded j v s = length v.events + left (length j.cells) s ≤ (5 + WORDS) * length j.cells + (2 + WORDS)
+IsBounded j v s = length v.events + left (length j.pending.cells) s ≤ (5 + WORDS) * length j.pending.cells + (2 + WORDS)
 
 -- what holds of a worker between any two of its steps
 pub record IsWorker (j : Job) (v : View) (s : State) : Type 0 where

@@ -5,7 +5,8 @@ use Rattle.cell_words.specs.declared.TheConstants.{WORDS}
 use Rattle.cell_words.specs.Records.{tag_words}
 use Rattle.worker_machine.specs.declared.state.Entry.{Entry}
 use Rattle.worker_machine.specs.declared.state.Store.{Store}
-use Rattle.worker_machine.specs.States.{State, Phase, Free, Claiming, ReadingTag, ReadingValue, cells_of, has}
+use Rattle.worker_machine.specs.States.{State, Phase, Free, Claiming, ReadingTag, ReadingValue}
+use Rattle.worker_machine.specs.Evaluation.{cells_of, has}
 
 -- the cell i is being looked at
 abbrev pub in_phase : ℕ → Phase → Bool

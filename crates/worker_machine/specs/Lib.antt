@@ -1,8 +1,10 @@
 pub mod Jobs
+pub mod Evaluation
 pub mod States
 pub mod Machine
 pub mod RoundSteps
 pub mod Invariant
 pub mod Left
 pub mod Runs
+pub mod Found
 pub mod TwoCells

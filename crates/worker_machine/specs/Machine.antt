@@ -1,15 +1,12 @@
 -- The worker's machine: what its state calls for, what changes without a step, and what follows from what a step found.
-use Rattle.std.specs.Prelude.{ℕ, zero, suc, ◌+◌, ◌*◌, ◌/◌, true, false, cond, ltb, eqb, Option, Some, None, List, [], ◌∷◌, ◌++◌, length, get_or, set, drop}
+use Rattle.std.specs.Prelude.{ℕ, zero, suc, ◌+◌, ◌*◌, ◌/◌, true, false, cond, ltb, eqb, Option, Some, None, List, [], ◌∷◌, ◌++◌, length, set}
 use Rattle.std.specs.Option.{option_or}
-use Rattle.cell_values.specs.declared.address.Addr.{Addr}
-use Rattle.cell_values.specs.declared.values.Value.{Value}
 use Rattle.cell_values.specs.declared.values.Shown.{Shown}
 use Rattle.cell_words.specs.declared.cell_word.CellWord.{CellWord}
 use Rattle.cell_words.specs.Records.{record_words, tag_words, tag_of, value_of, filled, shown_read}
-use Rattle.formula_trees.specs.Expr.{Expr}
 use Rattle.demand_spec.specs.declared.Asked.{Asked}
 use Rattle.demand_spec.specs.declared.Asked.TheVariants.{Val, Needs}
-use Rattle.demand_spec.specs.Book.{Known, formula_at, ask_cell, shown}
+use Rattle.demand_spec.specs.Book.{ask_cell}
 use Rattle.claim_core.specs.declared.event.Claim.{Claim}
 use Rattle.claim_core.specs.declared.event.Publish.{Publish}
 use Rattle.claim_core.specs.declared.event.Event.{Event}
@@ -21,34 +18,8 @@ use Rattle.worker_machine.specs.declared.action.Next.TheVariants.{Alter, Do, Res
 use Rattle.worker_machine.specs.declared.state.Entry.{Entry}
 use Rattle.worker_machine.specs.declared.state.Store.{Store}
 use Rattle.worker_machine.specs.Jobs.{Job, cell_at, cell_number}
-use Rattle.worker_machine.specs.States.{Phase, Free, Claiming, ReadingTag, ReadingValue, State, known_at, cells_of, has}
-
--- The values over which the top cell is asked
-
--- the value that is shown, none where a mark is
-abbrev pub value_in : Shown → Option Value
-value_in (Shown.Val v) = Some v
-value_in (Shown.Cycle n) = None
-value_in Shown.ToCycle = None
-
--- the value of a known result
-abbrev pub known_value : Option Shown → Option Value
-known_value (Some r) = value_in r
-known_value None = None
-
--- the value that a formula cell shows
-abbrev pub stored_value : Option Expr → Shown → Option Value
-stored_value (Some t) r = value_in r
-stored_value None r = None
-
--- a pending cell has its known value, and any other formula cell the value that it shows
-abbrev pub value_from : Job → List (Option Shown) → Addr → Option ℕ → Option Value
-value_from j known a (Some i) = known_value (get_or known i None)
-value_from j known a None = stored_value (formula_at j.book a) (shown j.book a)
-
--- these values
-abbrev pub values : Job → List (Option Shown) → Known
-values j known = λ a. value_from j known a (cell_number j a)
+use Rattle.worker_machine.specs.Evaluation.{values, first_from, cells_of, has, pop, learn_top, part_to, mark_cycle}
+use Rattle.worker_machine.specs.States.{Phase, Free, Claiming, ReadingTag, ReadingValue, State, known_at}
 
 -- What the state calls for
 
@@ -69,7 +40,7 @@ next_needed s (Some i) = next_pending s i (known_at s i)
 -- what the formula of the top cell gives; each pending cell has a formula, so it never gives none
 abbrev pub next_answered : Job → State → Option Asked → Next
 next_answered j s (Some (Val v)) = Alter (Learn (Shown.Val v))
-next_answered j s (Some (Needs x)) = next_needed s (cell_number j x)
+next_answered j s (Some (Needs x)) = next_needed s (cell_number j.pending x)
 next_answered j s None = Alter (Learn Shown.ToCycle)
 
 -- the result of the top cell goes into a record: the record is taken, the value words and the tag word are stored, the cell is published
@@ -87,7 +58,7 @@ next_known s i r (Some c) = next_store i c r s.held
 -- the top cell is known, or it is asked
 abbrev pub next_top : Job → State → Entry → Option Shown → Next
 next_top j s f (Some r) = next_known s f.cell r f.owed
-next_top j s f None = next_answered j s (ask_cell j.book (values j s.known) (cell_at j f.cell))
+next_top j s f None = next_answered j s (ask_cell j.pending.book (values j.pending s.known) (cell_at j.pending f.cell))
 
 -- the stack has a top, or it is empty
 abbrev pub next_free : Job → State → List Entry → Next
@@ -106,30 +77,6 @@ unfoldable pub next : Job → State → Next
 next j s = next_in j s s.phase
 
 -- What changes without a step
-
--- the stack without its top
-abbrev pub pop : List Entry → List Entry
-pop [] = []
-pop (f ∷ rest) = rest
-
--- the top cell is known by this
-abbrev pub learn_top : List Entry → Shown → List (Option Shown) → List (Option Shown)
-learn_top [] r known = known
-learn_top (f ∷ rest) r known = set known f.cell (Some r)
-
--- the cells from the top down to this one
-abbrev pub part_to : ℕ → List ℕ → List ℕ
-part_to i [] = []
-part_to i (n ∷ rest) = cond (eqb n i) (n ∷ []) (n ∷ part_to i rest)
-
--- these cells are on a cycle of n cells
-abbrev pub mark_all : ℕ → List ℕ → List (Option Shown) → List (Option Shown)
-mark_all n [] known = known
-mark_all n (i ∷ rest) known = mark_all n rest (set known i (Some (Shown.Cycle n)))
-
--- these cells are a cycle
-abbrev pub mark_cycle : List ℕ → List (Option Shown) → List (Option Shown)
-mark_cycle part known = mark_all (length part) part known
 
 -- the state after a change
 abbrev pub after_change : State → Change → State
@@ -164,19 +111,9 @@ settle j s = settle_for j (changes_left s) s
 
 -- The step
 
--- the first cell that is not known, where the list begins with the cell i
-abbrev pub first_unknown : List (Option Shown) → ℕ → Option ℕ
-first_unknown [] i = None
-first_unknown (None ∷ rest) i = Some i
-first_unknown (Some r ∷ rest) i = first_unknown rest (suc i)
-
--- the first from the cell n on, or else the first of all
-abbrev pub first_from : List (Option Shown) → ℕ → Option ℕ
-first_from known n = option_or (first_unknown (drop n known) n) (first_unknown known 0)
-
 -- where this worker begins: the workers' first cells are spread evenly
 unfoldable pub begins_at : Job → ℕ
-begins_at j = j.worker * length j.cells / j.workers
+begins_at j = j.worker * length j.pending.cells / j.workers
 
 -- a look at the cell, if there is one
 abbrev pub look_at_cell : Option ℕ → Option Action

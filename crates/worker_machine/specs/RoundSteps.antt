@@ -51,14 +51,14 @@ IsEvent a e = a ≡ action_of (claimer_in a) e
 
 -- what the round asks of a step, where the worker holds this record
 abbrev pub IsAllowed : Job → View → Option ℕ → Action → Type 0
-IsAllowed j v held (Action.Look i) = i < length j.cells
-IsAllowed j v held (Action.Claim i) = i < length j.cells
+IsAllowed j v held (Action.Look i) = i < length j.pending.cells
+IsAllowed j v held (Action.Claim i) = i < length j.pending.cells
 IsAllowed j v held Action.TakeRecord = (held ≡ None) × (v.held ≡ [])
 IsAllowed j v held (Action.StoreValue r k w) = (held ≡ Some r) × (rec_of v.held ≡ r) × (k < WORDS)
 IsAllowed j v held (Action.StoreTag r w) = (held ≡ Some r) × (rec_of v.held ≡ r)
-IsAllowed j v held (Action.Publish i r c) = (held ≡ Some r) × (rec_of v.held ≡ r) × (i < length j.cells) × (c < j.workers) × Seen v i (CellWord.Claimed c) × HasSpelt (shows j i) v
-IsAllowed j v held (Action.LoadTag r) = r < length j.cells + j.workers
-IsAllowed j v held (Action.LoadValue r k) = (r < length j.cells + j.workers) × (k < WORDS)
+IsAllowed j v held (Action.Publish i r c) = (held ≡ Some r) × (rec_of v.held ≡ r) × (i < length j.pending.cells) × (c < j.workers) × Seen v i (CellWord.Claimed c) × HasSpelt (shows j.pending i) v
+IsAllowed j v held (Action.LoadTag r) = r < length j.pending.cells + j.workers
+IsAllowed j v held (Action.LoadValue r k) = (r < length j.pending.cells + j.workers) × (k < WORDS)
 
 -- what is known of a step's event: a word's numbers are the round's, the record of a cell that was seen done spells what the book shows there, and a tag word is that of a result of the program
 abbrev pub IsTold : View → State → Event → Type 0
@@ -74,7 +74,7 @@ IsTold v s (Event.LoadValue r k w) = (i : ℕ) → SeenDone v i r → k < record
 -- a hint names a cell that is not known
 abbrev pub IsHint : Job → State → Option ℕ → Type 0
 IsHint j s None = Unit {0}
-IsHint j s (Some i) = (i < length j.cells) × (known_at s i ≡ None)
+IsHint j s (Some i) = (i < length j.pending.cells) × (known_at s i ≡ None)
 
 -- a step of a settled state: its action, and what came of it
 pub record IsStep (j : Job) (v : View) (s : State) (e : Event) : Type 0 where

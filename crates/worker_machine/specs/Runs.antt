@@ -1,6 +1,5 @@
 -- A worker's run, and what is proved of every run, whatever the other workers do.
 use Rattle.std.specs.Prelude.{◌≡◌, ℕ, ◌+◌, ◌*◌, ◌<◌, ◌≤◌, Option, Some, None, List, [], length}
-use Rattle.cell_values.specs.declared.values.Shown.{Shown}
 use Rattle.cell_words.specs.declared.TheConstants.{WORDS}
 use Rattle.claim_core.specs.declared.event.Event.{Event}
 use Rattle.claim_core.specs.declared.view.View.{View}
@@ -9,8 +8,9 @@ use Rattle.claim_core.specs.Passes.{SeesAllDone}
 use Rattle.worker_machine.specs.declared.action.Action.{Action}
 use Rattle.worker_machine.specs.declared.action.Change.{Change}
 use Rattle.worker_machine.specs.declared.action.Next.TheVariants.{Alter}
-use Rattle.worker_machine.specs.Jobs.{Job, IsJob, shows}
-use Rattle.worker_machine.specs.States.{State, Phase, Free, Claiming, ReadingTag, ReadingValue, start, known_at, held_number}
+use Rattle.worker_machine.specs.Jobs.{Job, IsJob}
+use Rattle.worker_machine.specs.Evaluation.{AllRight, KnowsAll}
+use Rattle.worker_machine.specs.States.{State, Phase, Free, Claiming, ReadingTag, ReadingValue, start, held_number}
 use Rattle.worker_machine.specs.Machine.{next, after_change, settle, action, after}
 use Rattle.worker_machine.specs.RoundSteps.{IsFreshView, IsAllowed, IsHint, IsStep}
 use Rattle.worker_machine.specs.Invariant.{IsWorker}
@@ -20,21 +20,13 @@ pub data IsRun (j : Job) : View → State → Type 0 where
   at_start : (v : View) → IsFreshView j v → IsRun j v (start j)
   further : (v : View) (s : State) (e : Event) → IsRun j v s → IsStep j v (settle j s) e → IsRun j (grown e v) (after j (settle j s) e)
 
--- each known result is what the book shows
-abbrev pub AllRight : Job → State → Type 0
-AllRight j s = (i : ℕ) (r : Shown) → known_at s i ≡ Some r → r ≡ shows j i
-
--- each cell is known
-abbrev pub KnowsAll : Job → State → Type 0
-KnowsAll j s = (i : ℕ) → i < length j.cells → known_at s i ≡ Some (shows j i)
-
 -- nothing changes before a step
 abbrev pub IsSettled : Job → State → Type 0
 IsSettled j s = (c : Change) → next j s ≡ Alter c → ⊥
 
 -- each result that a worker knows is what the book shows, before and after it settles
 abbrev pub ResultsRight : Type 0
-ResultsRight = (j : Job) → IsJob j → (v : View) (s : State) → IsRun j v s → AllRight j s × AllRight j (settle j s)
+ResultsRight = (j : Job) → IsJob j → (v : View) (s : State) → IsRun j v s → AllRight j.pending s.known × AllRight j.pending (settle j s).known
 
 -- each step is one that the round allows
 abbrev pub StepsAllowed : Type 0
@@ -42,11 +34,11 @@ StepsAllowed = (j : Job) → IsJob j → (v : View) (s : State) → IsRun j v s 
 
 -- a worker that has no step left knows every cell, and has seen every cell done
 abbrev pub EndsWithAll : Type 0
-EndsWithAll = (j : Job) → IsJob j → (v : View) (s : State) → IsRun j v s → (hint : Option ℕ) → action j (settle j s) hint ≡ None → KnowsAll j (settle j s) × SeesAllDone (length j.cells) v
+EndsWithAll = (j : Job) → IsJob j → (v : View) (s : State) → IsRun j v s → (hint : Option ℕ) → action j (settle j s) hint ≡ None → KnowsAll j.pending (settle j s).known × SeesAllDone (length j.pending.cells) v
 
 -- a worker makes few steps
 abbrev pub FewSteps : Type 0
-FewSteps = (j : Job) → IsJob j → (v : View) (s : State) → IsRun j v s → length v.events ≤ 16 * length j.cells + 16
+FewSteps = (j : Job) → IsJob j → (v : View) (s : State) → IsRun j v s → length v.events ≤ 16 * length j.pending.cells + 16
 
 -- what holds between two steps holds at the start
 abbrev pub WorkerBegins : Type 0
@@ -72,7 +64,7 @@ words_of (ReadingValue i r t words) = words
 
 -- the stack and the cell that is looked at are no more than the cells, and fewer value words were read than a record has
 abbrev pub StaysSmall : Type 0
-StaysSmall = (j : Job) (v : View) (s : State) → IsWorker j v s → (length s.stack + looked_at s.phase ≤ length j.cells) × (length (words_of s.phase) < WORDS)
+StaysSmall = (j : Job) (v : View) (s : State) → IsWorker j v s → (length s.stack + looked_at s.phase ≤ length j.pending.cells) × (length (words_of s.phase) < WORDS)
 
 -- to settle is to change once and settle then, until nothing changes
 abbrev pub SettlesInTurn : Type 0

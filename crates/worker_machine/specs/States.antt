@@ -1,5 +1,5 @@
 -- The state of a worker.
-use Rattle.std.specs.Prelude.{ℕ, Bool, false, ◌||◌, eqb, Option, Some, None, List, [], ◌∷◌, length, get_or, replicate}
+use Rattle.std.specs.Prelude.{ℕ, Option, Some, None, List, [], ◌∷◌, length, get_or, replicate}
 use Rattle.cell_values.specs.declared.values.Shown.{Shown}
 use Rattle.worker_machine.specs.declared.state.Doing.{Doing}
 use Rattle.worker_machine.specs.declared.state.Entry.{Entry}
@@ -29,21 +29,11 @@ phase_of (Doing.ReadingValue i r t) words = ReadingValue i r t words
 
 -- where a worker begins: it has done nothing and knows nothing
 abbrev pub start : Job → State
-start j = record { stack = []; known = replicate (length j.cells) None; held = None; phase = Free }
+start j = record { stack = []; known = replicate (length j.pending.cells) None; held = None; phase = Free }
 
 -- the known result of the cell i
 abbrev pub known_at : State → ℕ → Option Shown
 known_at s i = get_or s.known i None
-
--- the cells of the stack
-abbrev pub cells_of : List Entry → List ℕ
-cells_of [] = []
-cells_of (f ∷ rest) = f.cell ∷ cells_of rest
-
--- whether the number is one of these
-abbrev pub has : ℕ → List ℕ → Bool
-has i [] = false
-has i (n ∷ rest) = eqb n i || has i rest
 
 -- the known result of the top cell
 abbrev pub top_result : List (Option Shown) → List Entry → Option Shown

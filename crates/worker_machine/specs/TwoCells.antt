@@ -27,8 +27,10 @@ to c = Ref (record { sheet = None; col = Part.At c; row = Part.At 1 })
 -- the two cells, both pending, and worker 0 of two
 abbrev pub two_cells : Job
 two_cells = record {
-  book = record { cells = (cell 1, Content.Formula (to 2)) ∷ (cell 2, Content.Formula (to 1)) ∷ []; texts = [] };
-  cells = cell 1 ∷ cell 2 ∷ [];
+  pending = record {
+    book = record { cells = (cell 1, Content.Formula (to 2)) ∷ (cell 2, Content.Formula (to 1)) ∷ []; texts = [] };
+    cells = cell 1 ∷ cell 2 ∷ [];
+  };
   worker = 0;
   workers = 2;
 }
@@ -36,8 +38,8 @@ two_cells = record {
 -- its view at first
 abbrev pub first_view : View
 first_view = record {
-  book = two_cells.book;
-  cells = two_cells.cells;
+  book = two_cells.pending.book;
+  cells = two_cells.pending.cells;
   workers = 2;
   numbers = 0 ∷ [];
   events = [];

@@ -2,18 +2,22 @@
 //! means, what each of its steps does, that each result that it knows is what the book shows, and that
 //! it makes few steps, whatever the other workers do.
 //!
-//! `specs/Machine.antt` says what a worker does, over plain data, and `specs/Invariant.antt` what holds
-//! between its steps. No worker runs here: one that does keeps these states, and its clauses cite these
-//! laws.
+//! `specs/Machine.antt` says what a worker does, over plain data, `specs/Evaluation.antt` what is known
+//! and what the stack means, without a round, and `specs/Invariant.antt` what holds between its steps. No
+//! worker runs here: one that does keeps these states, and its clauses cite these laws.
 #![tactic(auto)]
 
 ghost use Rattle.worker_machine.specs.Runs.{ResultsRight, StepsAllowed, EndsWithAll, FewSteps, WorkerBegins, ChangesKeep, SettlesInTurn, StepsKeep, StaysSmall};
 ghost use Rattle.worker_machine.specs.TwoCells.{TwoCellsRun};
 
 mod action;
+mod hints;
+mod pace;
 mod state;
 
 pub use action::{Action, Change, Next};
+pub use hints::{Hints, NoHints};
+pub use pace::{Kind, NoPace, Pace};
 pub use state::{Doing, Entry, Store};
 
 /// What holds of a worker between its steps holds at its start, and each change and each step keeps it.
