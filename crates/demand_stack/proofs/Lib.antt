@@ -1,0 +1,9 @@
+pub mod Searching
+pub mod Recalls
+pub mod Begins
+pub mod Opened
+pub mod Noted
+pub mod Seeking
+pub mod Keeping
+pub mod Downward
+pub mod Steps

@@ -1,0 +1,4 @@
+pub mod StackSeen
+pub mod Open
+pub mod Recall
+pub mod Kept
