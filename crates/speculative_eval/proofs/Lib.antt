@@ -1,0 +1,4 @@
+pub mod Calling
+pub mod Becoming
+pub mod Keeping
+pub mod Turning

@@ -1,0 +1,5 @@
+pub mod Hinted
+pub mod Performs
+pub mod Machines
+pub mod Workers
+pub mod Steps
