@@ -1,0 +1,9 @@
+pub mod Moved
+pub mod Results
+pub mod Kept
+pub mod Updates
+pub mod Seen
+pub mod Edited
+pub mod Linked
+pub mod Walked
+pub mod Followed
