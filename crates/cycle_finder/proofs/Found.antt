@@ -65,7 +65,7 @@ next_first (c ∷ cells) order after x e = go (lies_after after c.0) refl e (nex
 pub next_cells : (b : Book) → InOrder (addresses b.cells) → (after : Option Addr) (x : Addr) → next_in b.cells after ≡ Some x → cells_behind b after ≡ x ∷ cells_behind b (Some x)
 next_cells b = next_first b.cells
 
-none_next : (cells : Cells) (after : Option Addr) → next_in cells after ≡ None → filter (lies_after after) (addresses cells) ≡ []
+pub none_next : (cells : Cells) (after : Option Addr) → next_in cells after ≡ None → filter (lies_after after) (addresses cells) ≡ []
 none_next [] after e = refl
 none_next (c ∷ cells) after e = go (lies_after after c.0) e (none_next cells after)
   where
@@ -74,12 +74,12 @@ none_next (c ∷ cells) after e = go (lies_after after c.0) e (none_next cells a
     go false q later = later q
 
 -- what is known where a cell is the next one
-record IsNext (b : Book) (after : Option Addr) (x : Addr) : Type 0 where
-  cells : cells_behind b after ≡ x ∷ cells_behind b (Some x)
-  behind : lies_after after x ≡ true
-  first : (y : Addr) → In y (addresses b.cells) → IsBefore y x → lies_after after y ≡ false
+pub record IsNext (b : Book) (after : Option Addr) (x : Addr) : Type 0 where
+  pub cells : cells_behind b after ≡ x ∷ cells_behind b (Some x)
+  pub behind : lies_after after x ≡ true
+  pub first : (y : Addr) → In y (addresses b.cells) → IsBefore y x → lies_after after y ≡ false
 
-is_next : (b : Book) → InOrder (addresses b.cells) → (after : Option Addr) (x : Addr) → next_in b.cells after ≡ Some x → IsNext b after x
+pub is_next : (b : Book) → InOrder (addresses b.cells) → (after : Option Addr) (x : Addr) → next_in b.cells after ≡ Some x → IsNext b after x
 is_next b order after x e = record {
   cells = next_cells b order after x e;
   behind = next_behind b.cells after x e;

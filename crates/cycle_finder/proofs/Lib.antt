@@ -5,3 +5,4 @@ pub mod Listing
 pub mod Recalls
 pub mod Found
 pub mod Adding
+pub mod Told

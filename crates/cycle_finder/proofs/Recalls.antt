@@ -13,21 +13,23 @@ use Rattle.shared_expressions.specs.Trees.{depth}
 use Rattle.shared_expressions.proofs.Depths.{depth_within_nodes}
 use Rattle.demand_spec.specs.declared.Asked.{Asked}
 use Rattle.demand_spec.specs.declared.Asked.TheVariants.{Val, Needs}
-use Rattle.demand_spec.specs.Book.{Book, Content, formula_of, own_of, formula_at, own, look, look_at, ask, ask_formula, ask_cell, cell_needed, formulas, finished, need, period, shown, shown_from}
+use Rattle.demand_spec.specs.Formula.{plan}
+use Rattle.demand_spec.specs.Plan.{run}
+use Rattle.demand_spec.specs.Book.{Book, Content, Known, formula_of, own_of, formula_at, own, look, look_at, ask, ask_formula, ask_cell, cell_needed, formulas, finished, need, period, shown, shown_from}
 use Rattle.demand_spec.specs.Listed.{IsContentOf, IsFormulaOf}
 use Rattle.demand_spec.proofs.Results.{shows_its_texts}
 use Rattle.workbook_core.specs.Books.{SharedBook, IsWorkbook}
 use Rattle.cycle_finder.specs.Loops.{loop_length, HoldShown}
-use Rattle.cycle_finder.specs.Search.{own_in, value_of, length_of}
+use Rattle.cycle_finder.specs.Search.{own_in, value_of, length_of, AreShown, values_in}
 use Rattle.cycle_finder.proofs.Around.{length_shows, shows_length}
 
 -- a cell without a formula
 
-pub own_found : (b : Book) (a : Addr) (x : Option Content) (v : Value) → x ≡ entry_at b.cells a → Some v ≡ own_in x → Val v ≡ look b (finished b) a
+pub own_found : (b : Book) (e : Known) (a : Addr) (x : Option Content) (v : Value) → x ≡ entry_at b.cells a → Some v ≡ own_in x → Val v ≡ look b e a
 unfolding formula_at own
-own_found b a x v p q = subst (λ z. Val v ≡ look_at (formula_of z) (own_of z) (finished b a) a) p (go x q)
+own_found b e a x v p q = subst (λ z. Val v ≡ look_at (formula_of z) (own_of z) (e a) a) p (go x q)
   where
-    go : (x : Option Content) → Some v ≡ own_in x → Val v ≡ look_at (formula_of x) (own_of x) (finished b a) a
+    go : (x : Option Content) → Some v ≡ own_in x → Val v ≡ look_at (formula_of x) (own_of x) (e a) a
     go None q = (let s : v ≡ Value.Blank = cc in ap Val s)
     go (Some (Content.Number n)) q = (let s : v ≡ Value.Number n = cc in ap Val s)
     go (Some (Content.Text t)) q = (let s : v ≡ Value.Text t = cc in ap Val s)
@@ -66,19 +68,43 @@ value_shown b a t e = rw e (go (finished b a) (period b (length (formulas b)) a)
 pub value_recalled : (b : Book) (results : List (Addr × Shown)) (a : Addr) (t : Expr) → HoldShown b results → formula_at b a ≡ Some t → value_of (entry_at results a) ≡ finished b a
 value_recalled b results a t h e = ap value_of (h a t e) ∙ value_shown b a t e
 
-pub value_found : (b : Book) (a : Addr) (t : Expr) (v : Value) → formula_at b a ≡ Some t → Some v ≡ finished b a → Val v ≡ look b (finished b) a
-value_found b a t v f q = (let g = sym f in λ i. look_at (g i) (own b a) (q i) a)
+pub value_found : (b : Book) (e : Known) (a : Addr) (t : Expr) (v : Value) → formula_at b a ≡ Some t → Some v ≡ e a → Val v ≡ look b e a
+value_found b e a t v f q = (let g = sym f in λ i. look_at (g i) (own b a) (q i) a)
 
-pub value_missing : (b : Book) (a : Addr) (t : Expr) → formula_at b a ≡ Some t → None ≡ finished b a → Needs a ≡ look b (finished b) a
-value_missing b a t f q = (let g = sym f in λ i. look_at (g i) (own b a) (q i) a)
+pub value_missing : (b : Book) (e : Known) (a : Addr) (t : Expr) → formula_at b a ≡ Some t → None ≡ e a → Needs a ≡ look b e a
+value_missing b e a t f q = (let g = sym f in λ i. look_at (g i) (own b a) (q i) a)
 
 shown_text : (ts : Texts) (r : Shown) (v : Value) → IsShownOf ts r → Some v ≡ value_of (Some r) → IsValueOf ts v
 shown_text ts (Shown.Val w) v h q = (let s : w ≡ v = cc in subst (IsValueOf ts) s h)
 shown_text ts (Shown.Cycle n) v h q = cc
 shown_text ts Shown.ToCycle v h q = cc
 
-pub value_text : (w : SharedBook) (results : List (Addr × Shown)) (a : Addr) (t : Expr) (v : Value) → IsWorkbook w → HoldShown w.book results → formula_at w.book a ≡ Some t → Some v ≡ value_of (entry_at results a) → IsValueOf w.book.texts v
-value_text w results a t v i h e q = shown_text w.book.texts (shown w.book a) v (shows_its_texts w.book (λ c x f. (i.cells c x f).texts) a) (q ∙ ap value_of (h a t e))
+pub value_text : (w : SharedBook) (results : List (Addr × Shown)) (a : Addr) (t : Expr) (v : Value) → IsWorkbook w → AreShown w.book results → formula_at w.book a ≡ Some t → Some v ≡ value_of (entry_at results a) → IsValueOf w.book.texts v
+value_text w results a t v i h e q = go (entry_at results a) refl q
+  where
+    go : (o : Option Shown) → entry_at results a ≡ o → Some v ≡ value_of o → IsValueOf w.book.texts v
+    go None p k = cc
+    go (Some r) p k = shown_text w.book.texts r v (subst (IsShownOf w.book.texts) (sym (h a t r e p)) (shows_its_texts w.book (λ c x f. (i.cells c x f).texts) a)) k
+
+-- where all results are there, asked over them a cell gives what it gives over what is finished
+
+pub all_shown : (b : Book) (results : List (Addr × Shown)) → HoldShown b results → AreShown b results
+all_shown b results h c t r e f = (let s : Some r ≡ Some (shown b c) = sym f ∙ h c t e in cc)
+
+same_look : (b : Book) (results : List (Addr × Shown)) → HoldShown b results → (a : Addr) → look b (values_in results) a ≡ look b (finished b) a
+same_look b results h a = go (formula_at b a) refl
+  where
+    go : (o : Option Expr) → formula_at b a ≡ o → look b (values_in results) a ≡ look b (finished b) a
+    go None e = ap (λ z. look_at z (own b a) (values_in results a) a) e ∙ sym (ap (λ z. look_at z (own b a) (finished b a) a) e)
+    go (Some t) e = ap (λ z. look_at (formula_at b a) (own b a) z a) (value_recalled b results a t h e)
+
+pub need_recalled : (b : Book) (results : List (Addr × Shown)) (c : Addr) → HoldShown b results → cell_needed (ask_cell b (values_in results) c) ≡ need b c
+unfolding need ask_cell
+need_recalled b results c h = go (formula_at b c)
+  where
+    go : (o : Option Expr) → cell_needed (ask_formula b (values_in results) c o) ≡ cell_needed (ask_formula b (finished b) c o)
+    go None = refl
+    go (Some t) = λ i. cell_needed (Some (run (λ a. same_look b results h a i) (plan b.texts c t)))
 
 -- loops
 
@@ -129,10 +155,12 @@ formula_fits w a t h e = go (entry_at w.book.cells a) refl e
         let small = c.sound.small in
         subst (Fits w a) same (record { sound = c.sound; meant = c.texts; room = omega (arith, depth_within_nodes u, small) })
 
-pub need_asked : (b : Book) (a : Addr) (t : Expr) (r : Asked) → formula_at b a ≡ Some t → r ≡ ask b (finished b) a t → cell_needed (Some r) ≡ need b a
-unfolding need ask_cell
-need_asked b a t r e q = ap (λ z. cell_needed (Some z)) q ∙ sym (ap (λ z. cell_needed (ask_formula b (finished b) a z)) e)
+-- what a formula gives is what its cell gives
 
-pub need_none : (b : Book) (a : Addr) → formula_at b a ≡ None → None ≡ need b a
-unfolding need ask_cell
-need_none b a e = sym (ap (λ z. cell_needed (ask_formula b (finished b) a z)) e)
+pub cell_asked : (b : Book) (e : Known) (a : Addr) (t : Expr) (r : Asked) → formula_at b a ≡ Some t → r ≡ ask b e a t → Some r ≡ ask_cell b e a
+unfolding ask_cell
+cell_asked b e a t r f q = ap Some q ∙ sym (ap (ask_formula b e a) f)
+
+pub none_asked : (b : Book) (e : Known) (a : Addr) → formula_at b a ≡ None → None ≡ ask_cell b e a
+unfolding ask_cell
+none_asked b e a f = sym (ap (ask_formula b e a) f)

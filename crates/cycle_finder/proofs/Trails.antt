@@ -112,7 +112,7 @@ closes b c n p = record {
 
 -- round and round
 
-around : (b : Book) (c : Addr) (n : ℕ) → HasPeriod b c n → (most j : ℕ) (y : Addr) → j ≤ most → follow b j c ≡ Some y → In y (trail b n (Some c))
+pub around : (b : Book) (c : Addr) (n : ℕ) → HasPeriod b c n → (most j : ℕ) (y : Addr) → j ≤ most → follow b j c ≡ Some y → In y (trail b n (Some c))
 around b c n p zero j y l h = trail_has b n j c y (omega (arith, p.some)) h
 around b c n p (suc most) j y l h = ⊎_elim
     (λ (m : j < n). trail_has b n j c y m h)

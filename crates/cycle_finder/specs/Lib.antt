@@ -1,3 +1,4 @@
 pub mod Loops
 pub mod Laws
 pub mod Search
+pub mod Told

@@ -5,8 +5,9 @@ use Rattle.cell_values.specs.declared.address.Addr.{Addr}
 use Rattle.cell_values.specs.declared.values.Shown.{Shown}
 use Rattle.cell_values.specs.declared.values.Value.{Value}
 use Rattle.cell_values.specs.Addresses.{same_addr}
-use Rattle.cell_values.specs.Order.{addresses}
-use Rattle.demand_spec.specs.Book.{Book, Content, own_of}
+use Rattle.cell_values.specs.Order.{addresses, entry_at}
+use Rattle.formula_trees.specs.Expr.{Expr}
+use Rattle.demand_spec.specs.Book.{Book, Content, Known, own_of, formula_at, shown}
 use Rattle.workbook_core.specs.Books.{lies_after}
 use Rattle.cycle_finder.specs.Loops.{loop_length, loop_from, leads, loops}
 
@@ -19,6 +20,19 @@ own_in held = Some (own_of held)
 abbrev pub value_of : Option Shown → Option Value
 value_of (Some (Shown.Val v)) = Some v
 value_of _ = None
+
+-- a book, and the results of some of its formula cells
+pub record Recall : Type 0 where
+  pub book : Book
+  pub results : List (Addr × Shown)
+
+-- each result is what its cell shows
+abbrev pub AreShown : Book → List (Addr × Shown) → Type 0
+AreShown b results = (c : Addr) (t : Expr) (r : Shown) → formula_at b c ≡ Some t → entry_at results c ≡ Some r → r ≡ shown b c
+
+-- the values that results tell
+abbrev pub values_in : List (Addr × Shown) → Known
+values_in results = λ c. value_of (entry_at results c)
 
 -- the length of a loop, as a cell shows it
 abbrev pub length_of : Option Shown → Option ℕ

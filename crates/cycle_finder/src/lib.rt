@@ -5,6 +5,8 @@ ghost use Rattle.cycle_finder.specs.Laws.{AreWholeLoops, MembersShow, EachInOne,
 
 pub mod finder;
 mod recalled;
+#[cfg(test)]
+mod tests;
 mod walker;
 
 pub use finder::{Loop, cycles};

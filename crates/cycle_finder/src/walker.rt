@@ -1,22 +1,19 @@
 //! Walks along the needs of a book.
-ghost use Rattle.std.specs.Prelude.{◌≡◌, Some, option_map, IfOk};
+ghost use Rattle.std.specs.Prelude.{◌≡◌, Some, IfOk};
 ghost use Rattle.cell_values.specs.Order.{InOrder, addresses};
-ghost use Rattle.demand_spec.specs.Book.{formula_of, cell_needed, need};
-ghost use Rattle.shared_expressions.specs.Trees.{Trees, tree_at};
-ghost use Rattle.workbook_core.specs.Held.{content_in};
+ghost use Rattle.demand_spec.specs.Book.{cell_needed, need};
 ghost use Rattle.cycle_finder.specs.Loops.{loop_length, trail, HoldShown};
 ghost use Rattle.cycle_finder.specs.Search.{length_of};
 
 use crate::finder::Loop;
-use crate::recalled::{Recalled, result_of};
+use crate::recalled::{ask_over, expression, result_of};
 use cell_values::{Addr, Shown};
 use demand_spec::Results;
-use formula_eval::{Asked, Frames, ask};
+use formula_eval::{Asked, Frames};
 use formula_trees::MAX_NODES;
-use shared_expressions::ExprId;
 use std::alloc::{AllocError, Global};
 use std::marker::Model;
-use workbook_core::{Content, Workbook};
+use workbook_core::Workbook;
 
 /// A book, its results, and the frames for one evaluation, in room for the deepest formula. Contracts see the book.
 #[derive(Drop)]
@@ -49,16 +46,6 @@ impl<'a> Model for Walker<'a> {
     } };
 }
 
-/// The expression of a formula cell.
-fn expression(content: Option<Content>) -> Option<ExprId>
-    ensures { (p : Trees) → option_map (tree_at p) result ≡ formula_of (option_map (content_in p) content) }
-{
-    match content {
-        Some(Content::Formula(id)) => Some(id),
-        _ => None,
-    }
-}
-
 /// How long the loop is that a cell shows.
 fn length_of(shown: Option<Shown>) -> Option<u32>
     ensures { result ≡ length_of shown }
@@ -70,12 +57,12 @@ fn length_of(shown: Option<Shown>) -> Option<u32>
 }
 
 /// The cell that an evaluation lacks.
-fn lacking(answer: Asked) -> Option<Addr>
-    ensures { result ≡ cell_needed (Some answer) }
+fn lacking(answer: Option<Asked>) -> Option<Addr>
+    ensures { result ≡ cell_needed answer }
 {
     match answer {
-        Asked::Needs(cell) => Some(cell),
-        Asked::Val(_) => None,
+        Some(Asked::Needs(cell)) => Some(cell),
+        _ => None,
     }
 }
 
@@ -113,23 +100,7 @@ impl<'a> Walker<'a> {
         ensures need { result ≡ need self.old cell }
         ensures book { self.new ≡ self.old }
     {
-        match expression(self.book.content(cell)) {
-            Some(id) => {
-                let mut known = Recalled {
-                    book: self.book,
-                    results: self.results,
-                };
-                lacking(ask(
-                    &mut self.frames,
-                    self.book.pool(),
-                    self.book.texts(),
-                    id,
-                    cell,
-                    &mut known,
-                ))
-            }
-            None => None,
-        }
+        lacking(ask_over(&mut self.frames, self.book, self.results, cell))
     }
 
     /// The next so many cells along the needs, from a cell on.
