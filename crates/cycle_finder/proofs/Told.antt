@@ -1,10 +1,9 @@
 -- Results that are found one after the other: values, loops, and cells that lead into one.
 use Rattle.std.proofs.Common.{◌≡◌, ℕ, zero, suc, ◌+◌, ◌<◌, ◌≤◌, Bool, true, false, cond, ◌||◌, inl, inr, ◌⊎◌, ⊎_elim, Option, Some, None, List, [], ◌∷◌, ◌++◌, take, get_or, length, refl, sym, ap, ◌∙◌, subst, arith}
 use Rattle.std.specs.Prelude.{is_some}
-use Rattle.std.specs.List.{filter, list_any}
 use Rattle.std.specs.BTreeMap as tree
 use Rattle.std.specs.BTreeMap.{BTreeMap}
-use Rattle.std.proofs.lemmas.Bool.{cases_Bool, false_from_ne_true}
+use Rattle.std.proofs.lemmas.Bool.{false_from_ne_true}
 use Rattle.std.proofs.lemmas.List.{take_more}
 use Rattle.std.proofs.lemmas.List.Folds.{list_any_more}
 use Rattle.cell_values.specs.declared.address.Addr.{Addr}
@@ -17,7 +16,7 @@ use Rattle.formula_trees.specs.Expr.{Expr}
 use Rattle.demand_spec.specs.declared.Asked.{Asked}
 use Rattle.demand_spec.specs.declared.Asked.TheVariants.{Val, Needs}
 use Rattle.demand_spec.specs.Book.{Book, Known, formula_at, ask, ask_formula, ask_cell, value_given, finished, need, shown}
-use Rattle.demand_spec.specs.Laws.{In, PartOf, Demands, Chain, NeedChain, Distinct, OnLoop, IsLoop, Unfinished}
+use Rattle.demand_spec.specs.Laws.{In, PartOf, Demands, Chain, NeedChain, Distinct, OnLoop, IsLoop}
 use Rattle.demand_spec.proofs.Cycles.{values_show, loop_shows, others_lead, loop_period, needs_unfinished}
 use Rattle.demand_spec.proofs.Loops.{carried, need_from_demand, stack_closes}
 use Rattle.demand_spec.proofs.Members.{member_found, found_member}
@@ -26,7 +25,7 @@ use Rattle.demand_spec.proofs.Spread.{in_filter}
 use Rattle.demand_spec.proofs.Walks.{in_either}
 use Rattle.workbook_core.specs.Books.{lies_after, next_in}
 use Rattle.cycle_finder.specs.Loops.{trail, loop_length, loop_from, HoldShown}
-use Rattle.cycle_finder.specs.Search.{AreShown, value_of, values_in, cells_behind, has}
+use Rattle.cycle_finder.specs.Search.{AreShown, value_of, values_in, has}
 use Rattle.cycle_finder.specs.Told.{IsRight, AreRight, IsMark, Marks, AllTold}
 use Rattle.cycle_finder.proofs.Around.{period_length, loop_is_trail, back_on, formula_in}
 use Rattle.cycle_finder.proofs.Trails.{trail_none, around}
