@@ -47,7 +47,7 @@ first_is (None ∷ k) i n e = (let same : i ≡ n = cc in (0, omega arith, omega
 first_is (Some r ∷ k) i n e = (let w = first_is k (suc i) n e in (suc w.0, omega (arith, w.1), omega (arith, w.2), w.3))
 
 -- wherever the search begins
-from_is : (k : KnownList) (i n : ℕ) → first_from k i ≡ Some n → (n < length k) × (get_or k n None ≡ None)
+pub from_is : (k : KnownList) (i n : ℕ) → first_from k i ≡ Some n → (n < length k) × (get_or k n None ≡ None)
 from_is k i n e = go (first_unknown (drop i k) i) refl e
   where
     go : (o : Option ℕ) → first_unknown (drop i k) i ≡ o → option_or o (first_unknown k 0) ≡ Some n → (n < length k) × (get_or k n None ≡ None)
