@@ -7,3 +7,4 @@ pub mod Seeking
 pub mod Keeping
 pub mod Downward
 pub mod Steps
+pub mod Driving

@@ -10,5 +10,7 @@ mod marks;
 mod notes;
 mod recalled;
 pub mod stack;
+#[cfg(test)]
+mod tests;
 
 pub use stack::DemandStack;

@@ -1,0 +1,18 @@
+use Rattle.std.proofs.Common.{sym, ◌∙◌}
+use Rattle.demand_stack.proofs.Driving.{other_right, known_right, top_demands, needed_low, link_top}
+use Rattle.demand_stack.proofs.tests.need.Goals as goal
+
+pub learn_top-requires : goal.learn_top-requires
+learn_top-requires c = (c.args.top, (c.requires.top, other_right c.args.stack.now c.args.top c.args.at c.number_of.ensures.sees c.requires.top c.requires.needs (sym c.number_of.ensures.number ∙ c.in-None.is)))
+
+pub learn_top-requires-in-Some-known : goal.learn_top-requires-in-Some-known
+learn_top-requires-in-Some-known c = (c.args.top, (c.requires.top, known_right c.args.stack.now c.args.top c.args.at c.in-Some.cell c.in-Some-known.field-0 c.number_of.ensures.sees c.requires.top c.requires.needs (sym c.number_of.ensures.number ∙ c.in-Some.is) (sym c.known.ensures.known ∙ c.in-Some-known.is)))
+
+pub close-requires-clause-demands : goal.close-requires-clause-demands
+close-requires-clause-demands c = (c.args.top, top_demands c.args.stack.now c.args.top c.args.at c.in-Some.cell c.number_of.ensures.sees c.requires.top c.requires.needs (sym c.number_of.ensures.number ∙ c.in-Some.is))
+
+pub push-requires-clause-there : goal.push-requires-clause-there
+push-requires-clause-there c = needed_low c.args.stack.now c.args.at c.in-Some.cell (sym c.number_of.ensures.number ∙ c.in-Some.is)
+
+pub push-requires-clause-linked : goal.push-requires-clause-linked
+push-requires-clause-linked c = link_top c.args.stack.now c.args.top c.in-Some.cell c.number_of.ensures.sees (top_demands c.args.stack.now c.args.top c.args.at c.in-Some.cell c.number_of.ensures.sees c.requires.top c.requires.needs (sym c.number_of.ensures.number ∙ c.in-Some.is))
