@@ -1,15 +1,12 @@
 -- One more sheet.
-use Rattle.std.proofs.Common.{◌≡◌, ℕ, ◌+◌, ◌-◌, ◌<◌, ◌≤◌, List, [], ◌∷◌, ◌++◌, length, arith, Bool, true, false, nat_lt, cond, Option, Some, None, Result, Ok, Err, refl, sym, subst, ap, ◌∙◌}
+use Rattle.std.proofs.Common.{◌≡◌, ℕ, ◌+◌, ◌-◌, ◌<◌, ◌≤◌, List, [], ◌∷◌, ◌++◌, length, arith, true, false, nat_lt, cond, Option, Some, None, Ok, Err, refl, sym, subst, ap, ◌∙◌}
 use Rattle.std.specs.List.{AllByRecursion}
 use Rattle.std.specs.Result.{result_map_both}
-use Rattle.std.proofs.lemmas.Bool.{ltb-true, ltb-false}
 use Rattle.cell_values.specs.declared.TheConstants.{MAX_BOOK_CELLS}
 use Rattle.cell_values.specs.declared.address.Addr.{Addr}
 use Rattle.cell_values.specs.declared.fields.Raw.{Raw}
 use Rattle.cell_values.specs.Interned.{KeepsTexts}
-use Rattle.cell_values.specs.Order.{InOrder, addresses}
 use Rattle.cell_values.specs.Texts.{Texts}
-use Rattle.formula_trees.specs.Expr.{Expr}
 use Rattle.formula_grammar.specs.Reading.{Reading, IsReading}
 use Rattle.demand_spec.specs.Book.{Book, Content}
 use Rattle.demand_spec.specs.Edits.{Cells, with_cell}
@@ -17,7 +14,7 @@ use Rattle.sheet_loading.specs.declared.faults.LoadFault.{LoadFault}
 use Rattle.sheet_loading.specs.declared.faults.SheetRefusal.{SheetRefusal}
 use Rattle.sheet_loading.specs.Contents.{Names}
 use Rattle.sheet_loading.specs.Faults.{IsLoadFault}
-use Rattle.sheet_loading.specs.Loaded.{HasTree, HaveTrees, IsFilled, IsLoader, IsPlaced, LoadedSheets, book_of, cells_in, held_by, held_tree}
+use Rattle.sheet_loading.specs.Loaded.{HasTree, HaveTrees, IsFilled, IsLoader, IsPlaced, book_of, cells_in, held_by, held_tree}
 use Rattle.sheet_loading.specs.Sheets.{sheet_added, sheet_read, with_sheet}
 use Rattle.sheet_loading.specs.Steps.{ReadsSheet}
 use Rattle.sheet_loading.proofs.Placed.{both, in_order_both, placed_stay}

@@ -1,5 +1,5 @@
 -- The formulas of a sheet are read one after the other.
-use Rattle.std.proofs.Common.{◌≡◌, ℕ, suc, ◌+◌, ◌<◌, ◌≤◌, ◌⊎◌, inl, inr, List, [], ◌∷◌, drop, length, get_or, drop-cons, Option, Some, None, Result, Ok, Err, refl, sym, subst, ap, ◌∙◌, arith}
+use Rattle.std.proofs.Common.{◌≡◌, ℕ, suc, ◌+◌, ◌<◌, ◌⊎◌, inl, inr, List, [], ◌∷◌, drop, length, get_or, drop-cons, Some, None, Ok, Err, refl, sym, subst, ap, ◌∙◌, arith}
 use Rattle.std.specs.List.{All, AllPairs}
 use Rattle.std.specs.Result.{result_map_both}
 use Rattle.cell_values.specs.declared.address.Addr.{Addr}
@@ -12,12 +12,11 @@ use Rattle.formula_grammar.specs.Reading.{Reading, IsReading}
 use Rattle.sheet_csv.specs.declared.reading.SheetFault.{SheetFault}
 use Rattle.sheet_csv.specs.Sheet.{sheet_fields, first_fault, cells_of}
 use Rattle.sheet_csv.proofs.SheetFacts.{kept_none, kept_more}
-use Rattle.demand_spec.specs.Book.{Book}
 use Rattle.demand_spec.specs.Edits.{with_cell}
 use Rattle.sheet_loading.specs.declared.faults.LoadFault.{LoadFault}
 use Rattle.sheet_loading.specs.declared.faults.SheetRefusal.{SheetRefusal}
-use Rattle.sheet_loading.specs.Contents.{Names, before_cells, content_read, fields_read}
-use Rattle.sheet_loading.specs.Faults.{IsFaultInSheet, IsLoadFault, load_fault_of}
+use Rattle.sheet_loading.specs.Contents.{Names, before_cells, fields_read}
+use Rattle.sheet_loading.specs.Faults.{IsLoadFault, load_fault_of}
 use Rattle.sheet_loading.specs.Loaded.{cells_in, held_by}
 use Rattle.sheet_loading.specs.Sheets.{book_of_sheet, sheet_read, unless_fault}
 use Rattle.sheet_loading.specs.Steps.{IsFieldFault, ReadsField, ReadsFields, ReadsSheet}
@@ -29,9 +28,6 @@ pub record ReadOn (names : Names) (ts : Texts) (fields : List (Addr × Raw)) (no
   pub more : (us : Texts) → KeepsTexts now us → ReadsFields names now us rest → ReadsFields names ts us fields
   pub fault : (read : Reading) → IsReading names read → (why : SheetRefusal) → fields_read read names now rest ≡ Err why → fields_read read names ts fields ≡ Err why
   pub kept : KeepsTexts ts now
-
-pub read_start : (names : Names) (ts : Texts) (fields : List (Addr × Raw)) → ReadOn names ts fields ts fields
-read_start names ts fields = record { more = λ us k h. h; fault = λ read right why h. h; kept = kept_none ts }
 
 -- one field before others
 field_first : (names : Names) (now then us : Texts) (c : Addr × Raw) (rest : List (Addr × Raw)) → ReadsField names now then c.0 c.1 → KeepsTexts then us → ReadsFields names then us rest → ReadsFields names now us (c ∷ rest)
@@ -50,9 +46,9 @@ unfolding fields_read
 read_more names ts fields now then c rest h f k = record {
   more = λ us l m. h.more us (kept_more now then us k l) (field_first names now then us c rest f l m);
   fault = λ read right why e. h.fault read right why (
-    ap (λ o. before_cells c.0 o (λ known. fields_read read names known rest)) (f.made read right)
-    ∙ ap (result_map_both (λ b. record { cells = with_cell c.0 (held_by read then c.0 c.1) b.cells; texts = b.texts }) (λ w. w)) e
-  );
+      ap (λ o. before_cells c.0 o (λ known. fields_read read names known rest)) (f.made read right)
+      ∙ ap (result_map_both (λ b. record { cells = with_cell c.0 (held_by read then c.0 c.1) b.cells; texts = b.texts }) (λ w. w)) e
+      );
   kept = kept_more ts now then h.kept k;
 }
 
@@ -105,12 +101,6 @@ field_refused (SheetFault.TooManyCells row col) names sheet ts room bytes (inl h
 field_refused (SheetFault.NotUtf8 row col) names sheet ts room bytes (inr h) read = ap (λ f. unless_fault f (book_of_sheet read names (cells_of sheet ts (sheet_fields bytes)))) h
 field_refused (SheetFault.OutOfSheet row col) names sheet ts room bytes (inr h) read = ap (λ f. unless_fault f (book_of_sheet read names (cells_of sheet ts (sheet_fields bytes)))) h
 field_refused (SheetFault.TooManyCells row col) names sheet ts room bytes (inr h) read = ap (λ f. unless_fault f (book_of_sheet read names (cells_of sheet ts (sheet_fields bytes)))) h
-
-pub field_in_sheet : (fault : SheetFault) (sheet : ℕ) → IsFaultInSheet sheet (load_fault_of fault)
-field_in_sheet SheetFault.OutOfMemory sheet = tt
-field_in_sheet (SheetFault.NotUtf8 row col) sheet = tt
-field_in_sheet (SheetFault.OutOfSheet row col) sheet = tt
-field_in_sheet (SheetFault.TooManyCells row col) sheet = tt
 
 pub formula_refused : (fault : LoadFault) (names : Names) (sheet : ℕ) (ts us : Texts) (room : ℕ) (bytes : List ℕ) (fields : List (Addr × Raw)) → first_fault room (sheet_fields bytes) ≡ None →
     (us, fields) ≡ cells_of sheet ts (sheet_fields bytes) → ((read : Reading) → IsReading names read → IsLoadFault fault (fields_read read names us fields)) →

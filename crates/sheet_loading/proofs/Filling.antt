@@ -1,15 +1,13 @@
 -- A workbook is filled with fields, one behind the other.
-use Rattle.std.proofs.Common.{◌≡◌, ℕ, suc, ◌<◌, ◌≤◌, ◌+◌, List, [], ◌∷◌, ◌++◌, drop, length, get_or, drop-cons, Bool, true, false, cond, Option, Some, None, Ok, refl, sym, subst, ap, ◌∙◌, arith}
+use Rattle.std.proofs.Common.{◌≡◌, ℕ, suc, ◌<◌, ◌≤◌, ◌+◌, List, [], ◌∷◌, ◌++◌, drop, length, get_or, drop-cons, true, cond, Option, Some, None, refl, sym, subst, ap, ◌∙◌, arith}
 use Rattle.std.specs.List.{AllByRecursion}
 use Rattle.std.proofs.lemmas.List.{append-nil, append_assoc, length-append}
 use Rattle.cell_values.specs.declared.TheConstants.{MAX_BOOK_CELLS}
 use Rattle.cell_values.specs.declared.address.Addr.{Addr}
 use Rattle.cell_values.specs.declared.fields.Raw.{Raw}
-use Rattle.cell_values.specs.Addresses.{IsBefore, IsOnSheet, same_addr}
-use Rattle.cell_values.specs.Fields.{IsRawOf}
+use Rattle.cell_values.specs.Addresses.{IsBefore, same_addr}
 use Rattle.cell_values.specs.Order.{addresses, InOrder, IsAfterAll, IsBeforeAll}
 use Rattle.cell_values.specs.Texts.{Texts}
-use Rattle.formula_tokens.specs.Tokens.{with_literals}
 use Rattle.formula_tokens.proofs.Held.{held_stay}
 use Rattle.formula_grammar.specs.declared.faults.FaultKind.{FaultKind}
 use Rattle.formula_grammar.specs.Reading.{Reading, IsReading, Means, HasFault}
@@ -18,7 +16,7 @@ use Rattle.demand_spec.specs.Book.{Content}
 use Rattle.demand_spec.specs.Edits.{Cells, Put, IsApplied, IsTooLarge, applied, is_before, put_in, with_cell}
 use Rattle.demand_spec.proofs.Applied.{applied_only, edit_applies}
 use Rattle.workbook_core.specs.Books.{SharedBook}
-use Rattle.workbook_core.specs.Edits.{FieldHasFault, IsField, Puts, with_field}
+use Rattle.workbook_core.specs.Edits.{FieldHasFault, Puts, with_field}
 use Rattle.sheet_loading.specs.Contents.{Names}
 use Rattle.sheet_loading.specs.Loaded.{HasTree, HaveTrees, IsPlaced, cells_in, held_by, held_tree}
 use Rattle.sheet_loading.proofs.Trees.{reads_tree}
@@ -142,31 +140,6 @@ at_index names ts fields i c w low e h =
 pub fills_next : (names : Names) (ts : Texts) (fields : List (Addr × Raw)) (i : ℕ) (c : Addr × Raw) (w v : SharedBook) → i < length fields → c ≡ get_or fields i c → Fills names ts fields (drop i fields) w →
     ((read : Reading) → IsReading w.names read → v.book.cells ≡ w.book.cells ++ with_cell c.0 (held_by read w.book.texts c.0 c.1) []) → v.book.texts ≡ w.book.texts → v.names ≡ w.names → InOrder (addresses v.book.cells) → Fills names ts fields (drop (i + 1) fields) v
 fills_next names ts fields i c w v low e h put texts same order = fills_more names ts fields (drop (i + 1) fields) c w v (at_index names ts fields i c w low e h) put texts same order
-
--- what the next field's place asks for
-pub record IsNext (c : Addr × Raw) (w : SharedBook) : Type 0 where
-  pub on_sheet : IsOnSheet c.0
-  pub sheet : c.0.sheet < length w.names
-  pub text : IsRawOf w.book.texts c.1
-  pub field : IsField c.1
-  pub tree : HasTree w.names w.book.texts c.0 c.1
-  pub order : InOrder (addresses w.book.cells)
-  pub after : IsAfterAll c.0 (addresses w.book.cells)
-  pub room : length w.book.cells < MAX_BOOK_CELLS
-
-pub next_field : (names : Names) (ts : Texts) (fields : List (Addr × Raw)) (i : ℕ) (c : Addr × Raw) (w : SharedBook) → i < length fields → c ≡ get_or fields i c → Fills names ts fields (drop i fields) w → IsNext c w
-next_field names ts fields i c w low e h =
-    let k = at_index names ts fields i c w low e h in
-    record {
-      on_sheet = k.placed.0.on_sheet;
-      sheet = subst (λ ns. c.0.sheet < length ns) (sym k.names) k.placed.0.earlier;
-      text = subst (λ us. IsRawOf us c.1) (sym k.texts) k.placed.0.text;
-      field = k.placed.0.field;
-      tree = subst (λ us. HasTree w.names us c.0 c.1) (sym k.texts) (subst (λ ns. HasTree ns ts c.0 c.1) (sym k.names) k.trees.0);
-      order = k.order;
-      after = k.after.0;
-      room = (let few = k.few in omega (arith, few));
-    }
 
 pub all_filled : (names : Names) (ts : Texts) (fields : List (Addr × Raw)) (w : SharedBook) → Fills names ts fields [] w → (read : Reading) → IsReading names read → w.book.cells ≡ cells_in read ts fields
 unfolding cells_in

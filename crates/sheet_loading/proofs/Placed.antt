@@ -1,8 +1,7 @@
 -- The cells that a sheet gives are fields, none of them empty, and lie behind those of earlier sheets.
-use Rattle.std.proofs.Common.{◌≡◌, ℕ, ℤ, ◌+◌, ◌<◌, ◌≤◌, inl, inr, List, [], ◌∷◌, ◌++◌, length, arith, Option, Some, None, Bool, true, false, eqb, refl, sym, subst, ap, ◌∙◌, cond, fold, codes, zero, suc}
+use Rattle.std.proofs.Common.{◌≡◌, ℕ, ℤ, ◌+◌, ◌≤◌, inl, List, [], ◌∷◌, ◌++◌, length, arith, Option, Some, None, Bool, true, false, eqb, refl, sym, subst, cond, fold, codes, suc}
 use Rattle.std.proofs.lemmas.List.Elements.{All-from_recursion}
 use Rattle.std.specs.List.{AllByRecursion, All, AllPairs}
-use Rattle.std.specs.Prelude.{slice_index_or}
 use Rattle.std.specs.Str.{bytes_eq}
 use Rattle.cell_values.specs.declared.address.Addr.{Addr}
 use Rattle.cell_values.specs.declared.fields.Raw.{Raw}

@@ -1,6 +1,5 @@
 -- Sheets one after the other.
 use Rattle.std.proofs.Common.{◌≡◌, ℕ, zero, suc, ◌+◌, ◌-◌, ◌<◌, ◌≤◌, get_or, drop, map, drop-cons, List, [], ◌∷◌, ◌++◌, length, arith, Result, Ok, Err, refl, sym, ap, ◌∙◌, subst}
-use Rattle.std.proofs.lemmas.List.{length-drop}
 use Rattle.formula_grammar.specs.Reading.{Reading, IsReading}
 use Rattle.demand_spec.specs.Book.{Book}
 use Rattle.sheet_loading.specs.declared.TheConstants.{SHEET_BYTES}
@@ -75,12 +74,6 @@ loads_at names sheets i bytes l low e h =
 pub loads_next : (names : Names) (sheets : List (List ℕ)) (i : ℕ) (bytes : List ℕ) (l m : LoadedSheets) → i < length sheets → bytes ≡ get_or sheets i bytes → Loads names sheets (drop i sheets) l →
     ((read : Reading) → IsReading l.names read → sheet_added read l.names l.sheet l.left (book_of read l) bytes ≡ Ok (book_of read m)) → m.names ≡ l.names → m.sheet ≡ l.sheet + 1 → m.left + length bytes ≡ l.left → Loads names sheets (drop (i + 1) sheets) m
 loads_next names sheets i bytes l m low e h added same next left = loads_more names sheets (drop (i + 1) sheets) bytes l m (loads_at names sheets i bytes l low e h) added same next left
-
-pub next_sheet : (names : Names) (sheets : List (List ℕ)) (i : ℕ) (l : LoadedSheets) → i < length sheets → Loads names sheets (drop i sheets) l → l.sheet < length l.names
-next_sheet names sheets i l low h =
-    let room = h.room in
-    let rest : length (drop i sheets) ≡ length sheets - i = length-drop i sheets in
-    subst (λ (ns : Names). l.sheet < length ns) (sym h.names) (omega (arith, room, rest, low))
 
 pub one_refused : (fault : LoadFault) (names : Names) (sheets : List (List ℕ)) (i : ℕ) (bytes : List ℕ) (l : LoadedSheets) → i < length sheets → bytes ≡ get_or sheets i bytes → Loads names sheets (drop i sheets) l →
     ((read : Reading) → IsReading l.names read → IsLoadFault fault (sheet_added read l.names l.sheet l.left (book_of read l) bytes)) → (read : Reading) → IsReading names read →

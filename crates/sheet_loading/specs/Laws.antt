@@ -1,5 +1,5 @@
 -- Sheets one after the other, and all at once.
-use Rattle.std.specs.Prelude.{◌≡◌, ℕ, ◌+◌, List, [], ◌∷◌, ◌++◌, length, Result, Ok, Err}
+use Rattle.std.specs.Prelude.{◌≡◌, ℕ, ◌+◌, List, ◌∷◌, ◌++◌, length, Ok, Err}
 use Rattle.formula_grammar.specs.Reading.{Reading}
 use Rattle.demand_spec.specs.Book.{Book}
 use Rattle.sheet_loading.specs.declared.faults.SheetRefusal.{SheetRefusal}

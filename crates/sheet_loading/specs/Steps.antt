@@ -1,5 +1,5 @@
 -- What single steps of loading tell.
-use Rattle.std.specs.Prelude.{◌≡◌, ◌+◌, ◌<◌, ℕ, List, [], ◌∷◌, ◌++◌, length, Result, Ok, Err}
+use Rattle.std.specs.Prelude.{◌≡◌, ◌+◌, ℕ, List, Ok, Err}
 use Rattle.std.specs.List.{All, AllByRecursion}
 use Rattle.cell_values.specs.declared.address.Addr.{Addr}
 use Rattle.cell_values.specs.declared.fields.Raw.{Raw}
@@ -7,11 +7,9 @@ use Rattle.cell_values.specs.Addresses.{IsOnSheet}
 use Rattle.cell_values.specs.Order.{InOrder, addresses}
 use Rattle.cell_values.specs.Texts.{Texts}
 use Rattle.formula_grammar.specs.Reading.{Reading, IsReading}
-use Rattle.demand_spec.specs.Edits.{Cells, with_cell}
 use Rattle.sheet_loading.specs.declared.faults.LoadFault.{LoadFault}
 use Rattle.sheet_loading.specs.declared.faults.SheetRefusal.{SheetRefusal}
 use Rattle.sheet_loading.specs.Contents.{Names, content_read, fields_read}
-use Rattle.sheet_loading.specs.Faults.{IsLoadFault}
 use Rattle.sheet_loading.specs.Loaded.{HasTree, HaveTrees, IsPlaced, cells_in, held_by}
 use Rattle.sheet_loading.specs.Sheets.{sheet_read}
 

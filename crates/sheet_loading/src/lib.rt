@@ -11,3 +11,6 @@ pub use loader::{Loader, load_sheets};
 
 /// The most bytes of all sheets together: 64 MiB.
 pub const SHEET_BYTES: usize = 67_108_864;
+
+#[cfg(test)]
+mod tests;

@@ -94,14 +94,7 @@ impl Loader {
             return Err(LoadFault::Refused(SheetRefusal::TooLong));
         }
         let room = MAX_BOOK_CELLS - self.fields.len() as u32;
-        let mut fields = read_fields(
-            alloc,
-            bytes,
-            self.sheet,
-            room,
-            &self.names,
-            &mut self.texts,
-        )?;
+        let mut fields = read_fields(alloc, bytes, self.sheet, room, &self.names, &mut self.texts)?;
         self.fields.append(&mut fields)?;
         self.left -= bytes.len();
         self.sheet += 1;
@@ -141,12 +134,7 @@ fn fill_workbook(
 }
 
 /// Puts a field into a cell behind all others.
-fn put_field(
-    alloc: Global,
-    workbook: &mut Workbook,
-    at: Addr,
-    raw: &Raw,
-) -> Result<(), AllocError>
+fn put_field(alloc: Global, workbook: &mut Workbook, at: Addr, raw: &Raw) -> Result<(), AllocError>
     requires on_sheet { IsOnSheet at }
     requires sheet { at.sheet < length workbook.old.names }
     requires text { IsRawOf workbook.old.book.texts raw.now }

@@ -1,4 +1,4 @@
-use Rattle.std.proofs.Common.{subst, sym}
+use Rattle.std.proofs.Common.{subst}
 use Rattle.formula_tokens.specs.Tokens.{with_literals}
 use Rattle.formula_trees.specs.Expr.{expr_of}
 use Rattle.formula_grammar.specs.Reading.{IsFaultOf}
