@@ -4,13 +4,16 @@ use Rattle.std.specs.Option.{option_or}
 use Rattle.cell_values.specs.declared.values.Shown.{Shown}
 use Rattle.cell_words.specs.declared.cell_word.CellWord.{CellWord}
 use Rattle.cell_words.specs.Records.{filled, shown_read, tag_words}
+use Rattle.cell_values.specs.declared.address.Addr.{Addr}
+use Rattle.demand_spec.specs.Book.{Book}
 use Rattle.claim_core.specs.declared.event.Claim.{Claim}
 use Rattle.claim_core.specs.declared.event.Publish.{Publish}
 use Rattle.claim_core.specs.declared.event.Event.{Event}
 use Rattle.claim_core.specs.declared.view.View.{View}
 use Rattle.claim_core.specs.Rule.{Setup}
 use Rattle.claim_core.specs.Steps.{grown, taken_after}
-use Rattle.claim_core.specs.Passes.{RoundSeen, PassSeen, SeesAllDone}
+use Rattle.claim_core.specs.Passes.{RoundSeen, PassSeen, IsIdle, SeesAllDone}
+use Rattle.claim_core.specs.Pending.{IsPending}
 use Rattle.worker_machine.specs.declared.action.Action.{Action}
 use Rattle.worker_machine.specs.declared.action.Change.{Change}
 use Rattle.worker_machine.specs.declared.action.Change.TheVariants.{Take, Learn, Close}
@@ -18,7 +21,7 @@ use Rattle.worker_machine.specs.declared.action.Next.{Next}
 use Rattle.worker_machine.specs.declared.action.Next.TheVariants.{Alter, Do, Rest}
 use Rattle.worker_machine.specs.declared.state.Store.{Store}
 use Rattle.worker_machine.specs.Jobs.{Job, round_of}
-use Rattle.worker_machine.specs.States.{State, Phase, Free, Claiming, ReadingTag, ReadingValue, held_number, top_result}
+use Rattle.worker_machine.specs.States.{State, Phase, Free, Claiming, ReadingTag, ReadingValue, start, held_number, top_result}
 use Rattle.worker_machine.specs.Machine.{next, action_from, look_at_cell, begins_at, settle, changes_left, after_change, after, after_word, after_claim, after_tag, after_load_tag, after_record, after_value, after_load_value, learn_cell, push_cell, with_word, with_tag, store_after}
 use Rattle.worker_machine.specs.Evaluation.{KnowsAll, first_from}
 use Rattle.worker_machine.specs.RoundSteps.{IsAllowed, IsEvent, IsHint, IsTold, action_of, claimer_in}
@@ -26,10 +29,11 @@ use Rattle.worker_machine.specs.Invariant.{IsWorker}
 use Rattle.worker_machine.specs.Runs.{IsSettled}
 use Rattle.worker_machine.proofs.Settle.{change_less, settle_keeps, settle_step}
 use Rattle.worker_machine.proofs.Changing.{right_within}
-use Rattle.worker_machine.proofs.Working.{change_works, settle_works, steps_keep, worker_allowed, worker_ends}
+use Rattle.worker_machine.proofs.Working.{work_begins, change_works, settle_works, steps_keep, worker_allowed, worker_ends}
 use Rattle.speculative_eval.specs.declared.machine.Machine.{Machine}
 use Rattle.speculative_eval.specs.Hinted.{HintsSeen, TakesHints, Took, asks, hint_of, hints_with}
 use Rattle.speculative_eval.specs.Performs.{CanDo, FitsTag, TagFits, taken_by}
+use Rattle.speculative_eval.specs.Workers.{job_in}
 use Rattle.speculative_eval.specs.Machines.{job_of, state_of, SameTask, IsWorking, IsKept, IsCalled, IsChosen, CanNote}
 
 -- the state of a machine that works on the same
@@ -225,3 +229,26 @@ chosen_is p m n old new hint a h is_next fits taken is_hint e = record {
 pub ends_with_all : (p : PassSeen) (m : Machine) (n : Next) (hint : Option ℕ) → IsKept p m → IsSettled (job_of m) (state_of m) → n ≡ next (job_of m) (state_of m) → action_from (job_of m) (state_of m) hint n ≡ None
     → KnowsAll (job_of m).pending m.demands.known × SeesAllDone (length m.demands.cells) p.view
 ends_with_all p m n hint h settled is_next e = worker_ends (job_of m) p.view (state_of m) h.works settled hint (subst (λ z. action_from (job_of m) (state_of m) hint z ≡ None) is_next e)
+
+-- at the start
+
+abbrev pub job_with : Book → List Addr → ℕ → ℕ → Job
+job_with b cs w m = record { pending = record { book = b; cells = cs }; worker = w; workers = m }
+
+pub same_jobs : (b d : Book) (cs ds : List Addr) (w v m n : ℕ) → b ≡ d → cs ≡ ds → w ≡ v → m ≡ n
+    → job_with b cs w m ≡ job_with d ds v n
+same_jobs b d cs ds w v m n p q e f = λ i. job_with (p i) (q i) (e i) (f i)
+
+begun_works : (r : RoundSeen) (p : PassSeen) → IsIdle r p → IsPending r.setup.book r.setup.cells → IsWorker (job_in r p) p.view (start (job_in r p))
+begun_works r p idle pending = work_begins (job_in r p) (record { pending = pending; worker = idle.0.3 }) p.view (record {
+  view = record { of_round = idle.0.1; number = idle.0.2 };
+  no_events = idle.1;
+  holds_none = idle.2;
+})
+
+pub begun_kept : (r : RoundSeen) (p : PassSeen) (m : Machine) → IsIdle r p → IsPending r.setup.book r.setup.cells → job_of m ≡ job_in r p → state_of m ≡ start (job_of m) → m.demands.first ≡ begins_at (job_of m) → IsKept p m
+begun_kept r p m idle pending job state first = record {
+  works = subst (λ s. IsWorker (job_of m) p.view s) (sym state) (subst (λ j. IsWorker j p.view (start j)) (sym job) (begun_works r p idle pending));
+  first = first;
+  taken = idle.3 ∙ ap held_number (sym (ap (λ (s : State). s.held) state));
+}

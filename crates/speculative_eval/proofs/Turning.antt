@@ -1,12 +1,12 @@
 -- A pass that takes or gives the turn keeps all that it has seen and holds.
-use Rattle.std.proofs.Common.{◌≡◌, ℕ, ◌<◌, List, [], ◌∷◌, refl, sym, ap, ◌∙◌, subst, Option, Some, None}
+use Rattle.std.proofs.Common.{◌≡◌, ℕ, ◌+◌, ◌<◌, length, length-append, arith, ◌++◌, List, [], ◌∷◌, refl, sym, ap, ◌∙◌, subst, Option, Some, None}
 use mathlib.Core.Option.{some}
 use lib.ListN.{get_elem?}
 use Rattle.claim_core.specs.declared.view.Made.{Made}
 use Rattle.claim_core.specs.declared.view.View.{View}
 use Rattle.claim_core.specs.declared.view.RoundWords.{RoundWords}
 use Rattle.claim_core.specs.Rule.{ShowsDone}
-use Rattle.claim_core.specs.Steps.{in_turn, idle}
+use Rattle.claim_core.specs.Steps.{in_turn, idle, made, me}
 use Rattle.claim_core.specs.Passes.{PassSeen, SeesAllDone}
 use Rattle.worker_machine.specs.declared.state.Store.{Store}
 use Rattle.worker_machine.specs.Jobs.{Job}
@@ -16,8 +16,8 @@ use Rattle.speculative_eval.specs.declared.machine.Machine.{Machine}
 use Rattle.speculative_eval.specs.declared.step.Step.{Step}
 use Rattle.speculative_eval.specs.Hinted.{HintsSeen}
 use Rattle.speculative_eval.specs.Machines.{IsKept, job_of, state_of}
-use Rattle.speculative_eval.specs.Workers.{worker_with}
-use Rattle.speculative_eval.specs.Steps.{EndsWith}
+use Rattle.speculative_eval.specs.Workers.{WorkerSeen, worker_with}
+use Rattle.speculative_eval.specs.Steps.{EndsWith, Makes, steps_in}
 
 -- the same view with other parts of the turn and other words
 abbrev seat_with : ℕ → RoundWords → View → View
@@ -63,3 +63,14 @@ sees_over m v w e h i low = (let s = subst (SeesDone m) (sym e) (λ n l. let k =
 pub ends_over : (p q : PassSeen) (m : Machine) (h : HintsSeen) (x : Step) → q.view ≡ idle p.view → EndsWith x (worker_with p m h) → EndsWith x (worker_with q m h)
 ends_over p q m h (Step.Did e) view k = tt
 ends_over p q m h Step.Finished view k = (k.0, sees_over _ p.view q.view (ap (λ (v : View). v.events) view) k.1)
+
+-- a step is one event more
+pub steps_made : (old new : WorkerSeen) (x : Step) → Makes old x new → length new.pass.view.events ≡ length old.pass.view.events + steps_in x
+steps_made old new (Step.Did e) h = ap (λ (v : View). length v.events) h.view ∙ length-append old.pass.view.events (made (me old.pass.view) e ∷ [])
+steps_made old new Step.Finished h = ap (λ (p : PassSeen). length p.view.events) h.pass ∙ (let n : ℕ = length old.pass.view.events in let e : n ≡ n + 0 = omega arith in e)
+
+-- the same between two turns
+pub steps_in_turn : (p q : PassSeen) (p' q' : PassSeen) (m m' : Machine) (h h' : HintsSeen) (words : RoundWords) (x : Step) → p'.view ≡ in_turn words p.view → q'.view ≡ idle q.view
+    → Makes (worker_with p' m h) x (worker_with q m' h') → length q'.view.events ≡ length p.view.events + steps_in x
+steps_in_turn p q p' q' m m' h h' words x taken given made =
+    ap (λ (v : View). length v.events) given ∙ (steps_made (worker_with p' m h) (worker_with q m' h') x made ∙ ap (λ (v : View). length v.events + steps_in x) taken)

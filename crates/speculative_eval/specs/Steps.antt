@@ -51,6 +51,11 @@ abbrev pub event_in : Step → Option Event
 event_in (Step.Did e) = Some e
 event_in Step.Finished = None
 
+-- how many steps were made
+abbrev pub steps_in : Step → ℕ
+steps_in (Step.Did e) = 1
+steps_in Step.Finished = 0
+
 -- a turn on these words: what is found, the words behind it and the new state are those of plain data
 pub record IsTurned (old : WorkerSeen) (words : RoundWords) (x : Step) (after_words : RoundWords) (new : WorkerSeen) : Type 0 where
   pub event : event_in x ≡ event_then words (step_action old new.hints)

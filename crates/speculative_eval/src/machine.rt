@@ -97,6 +97,7 @@ fn known_step(entry: Entry, shown: Shown, held: Option<Store>) -> Next
 
 impl<'b> Machine<'b> {
     /// A machine that has done nothing and knows nothing.
+    #[tactic(auto, unfolding(worker_machine::specs::Machine::begins_at))]
     pub(crate) fn new(
         alloc: Global,
         number: u8,

@@ -1,6 +1,6 @@
 //! A worker of a round.
 
-ghost use Rattle.std.specs.Prelude.{◌≡◌, IfSome, MatchResult, get_or, None};
+ghost use Rattle.std.specs.Prelude.{◌≡◌, ◌+◌, length, IfSome, MatchResult, get_or, None};
 ghost use Rattle.claim_core.specs.Passes.{Belongs, IsIdle, IsTurnOf};
 ghost use Rattle.worker_machine.specs.Jobs.{shows};
 ghost use Rattle.worker_machine.specs.States.{known_at};
@@ -8,7 +8,7 @@ ghost use Rattle.demand_stack.specs.StackSeen.{AreStored};
 ghost use Rattle.speculative_eval.specs.Hinted.{hints_with};
 ghost use Rattle.speculative_eval.specs.Machines.{IsKept};
 ghost use Rattle.speculative_eval.specs.Workers.{BelongsTo, IsWorkerOf, TakesHints, begun, worker_with};
-ghost use Rattle.speculative_eval.specs.Steps.{EndsWith, HasAll, HasFewEvents, IsTurned, Makes};
+ghost use Rattle.speculative_eval.specs.Steps.{EndsWith, HasAll, HasFewEvents, IsTurned, Makes, steps_in};
 
 use crate::machine::Machine;
 use crate::step::Step;
@@ -115,6 +115,7 @@ impl<'b, H: Hints> Worker<'b, H> {
         ensures worker { BelongsTo round.now self.new × (self.new.job ≡ self.old.job) }
         ensures turn { IsTurnOf round.now result.1 }
         ensures step { IsTurned self.old turn.words result.0 result.1.words self.new }
+        ensures made { length self.new.pass.view.events ≡ length self.old.pass.view.events + steps_in result.0 }
         ensures hints { TakesHints self.old self.new.hints }
         ensures ends { EndsWith result.0 self.new }
         ensures few { HasFewEvents self.new }
