@@ -1,8 +1,7 @@
 -- What a caller knows of the top, and of a book that it walks.
-use Rattle.std.proofs.Common.{◌≡◌, ℕ, zero, suc, ◌+◌, ◌<◌, ◌≤◌, inl, inr, ⊎_elim, Bool, true, false, cond, List, [], ◌∷◌, ◌++◌, append_assoc, length, get_or, drop, drop-cons, refl, sym, ap, ◌∙◌, subst, Option, Some, None, IsSome, is_some, arith}
+use Rattle.std.proofs.Common.{◌≡◌, ℕ, zero, suc, ◌<◌, ◌≤◌, inl, inr, Bool, true, false, cond, List, [], ◌∷◌, ◌++◌, append_assoc, length, get_or, drop, drop-cons, refl, sym, ap, ◌∙◌, subst, Option, Some, None, IsSome, arith}
 use Rattle.std.proofs.lemmas.List.{append-nil, length_push}
 use Rattle.cell_values.specs.declared.address.Addr.{Addr}
-use Rattle.cell_values.specs.declared.TheConstants.{MAX_BOOK_CELLS}
 use Rattle.cell_values.specs.declared.values.Shown.{Shown}
 use Rattle.cell_values.specs.declared.values.Value.{Value}
 use Rattle.cell_values.specs.Addresses.{same_addr, IsBefore}
@@ -14,10 +13,10 @@ use Rattle.demand_spec.specs.Book.{Book, Content, formula_of, formula_at}
 use Rattle.demand_spec.specs.Edits.{is_before}
 use Rattle.demand_spec.specs.Laws.{In, Demands}
 use Rattle.demand_spec.proofs.OneList.{before_member}
-use Rattle.workbook_core.specs.Books.{SharedBook, IsWorkbook, lies_after, next_in}
+use Rattle.workbook_core.specs.Books.{SharedBook, IsWorkbook, next_in}
 use Rattle.claim_core.specs.Pending.{IsPending}
 use Rattle.worker_machine.specs.declared.state.Entry.{Entry}
-use Rattle.worker_machine.specs.Jobs.{cell_at, cell_number, shows}
+use Rattle.worker_machine.specs.Jobs.{cell_at, cell_number}
 use Rattle.worker_machine.specs.Evaluation.{IsEvaluation, LinkTo, cells_of, first_from, has, values}
 use Rattle.worker_machine.proofs.Places.{number_some}
 use Rattle.worker_machine.proofs.Shows.{demands, values_part}
