@@ -7,6 +7,8 @@ pub mod edit;
 mod links;
 mod progress;
 pub mod summary;
+#[cfg(test)]
+mod tests;
 
 pub use calc::Calc;
 pub use edit::Edit;
