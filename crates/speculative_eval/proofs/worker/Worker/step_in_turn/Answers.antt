@@ -21,6 +21,6 @@ returns-clause-made g c =
     let before = c.self.inside.hints in
     let after = c.step_parts-step.new.hints in
     steps_in_turn c.self.inside.pass c.step_parts-step.new.pass c.take_turn.new.pass c.give_turn-turn.new.pass c.self.inside.machine c.step_parts-step.new.machine
-        (hints_with (g.H.Hints.left before) (g.H.Hints.last before) (g.H.Hints.over before)) (hints_with (g.H.Hints.left after) (g.H.Hints.last after) (g.H.Hints.over after))
-        c.args.turn.words c.step_parts-step.result c.take_turn.ensures.view c.give_turn-turn.ensures.view c.step_parts-step.ensures.step
+    (hints_with (g.H.Hints.left before) (g.H.Hints.last before) (g.H.Hints.over before)) (hints_with (g.H.Hints.left after) (g.H.Hints.last after) (g.H.Hints.over after))
+    c.args.turn.words c.step_parts-step.result c.take_turn.ensures.view c.give_turn-turn.ensures.view c.step_parts-step.ensures.step
     ∙ ap (λ (w : WorkerSeen). length w.pass.view.events + steps_in c.step_parts-step.result) c.self.view_is
