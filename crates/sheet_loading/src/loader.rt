@@ -58,6 +58,13 @@ impl Loader {
         }
     }
 
+    /// The names of all sheets of the run, in order.
+    pub fn names(&self) -> &SheetNames
+        ensures { result.now ≡ self.now.names }
+    {
+        &self.names
+    }
+
     /// The number of the next sheet, counted from 0: as many are loaded.
     pub fn sheet(&self) -> u8
         ensures sheet { result ≡ self.now.sheet }
