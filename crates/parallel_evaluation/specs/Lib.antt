@@ -1,0 +1,5 @@
+pub mod Summaries
+pub mod Order
+pub mod Workers
+pub mod Turns
+pub mod TestBooks
