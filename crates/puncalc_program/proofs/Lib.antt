@@ -1,7 +1,10 @@
+pub mod BareNames
+pub mod Changing
+pub mod Cuts
 pub mod Ends
-pub mod Cells
-pub mod Loads
-pub mod Filling
-pub mod Shows
+pub mod Extents
+pub mod Loading
+pub mod LoopCells
+pub mod Making
+pub mod Scripts
 pub mod Written
-pub mod Formulas

@@ -1,8 +1,10 @@
-pub mod Refusals
-pub mod Loading
-pub mod Faults
-pub mod Ordered
+pub mod Cells
 pub mod Sheets
-pub mod Recalculated
+pub mod Refusals
+pub mod Files
+pub mod Outputs
+pub mod Script
 pub mod Output
+pub mod Writing
+pub mod Desks
 pub mod Run

@@ -1,58 +1,71 @@
 -- How a run ends.
-use Rattle.std.specs.Prelude.{◌≡◌, ℕ, ◌≤◌, ◌⊎◌, List, Option, Result, Ok, Err, take}
-use Rattle.std.specs.List.{concat}
+use Rattle.std.specs.Prelude.{◌≡◌, ℕ, ◌⊎◌, true, List, Option, Some, None, IsSomeAnd, Result, Ok, Err}
 use Rattle.byte_streams.specs.Faults.{HasRisen}
-use Rattle.byte_streams.specs.Streams.{appended}
+use Rattle.byte_streams.specs.Folders.{StoredFile}
+use Rattle.command_words.specs.Asking.{Request}
+use Rattle.claim_core.specs.Passes.{OutcomeSeen}
 use Rattle.puncalc_program.specs.declared.stop.Stop.{Stop}
-use Rattle.puncalc_program.specs.Output.{Output}
-
--- a first part of the bytes was written, or all of them
-abbrev pub WritesPart : List ℕ → Option (List ℕ) → Option (List ℕ) → Type 0
-WritesPart bytes before now = (n : ℕ) × (now ≡ appended before (take n bytes))
+use Rattle.puncalc_program.specs.Desks.{KeptIs}
+use Rattle.puncalc_program.specs.Outputs.{Output}
+use Rattle.puncalc_program.specs.Output.{Readings, AreReadings, is_edit, request_output}
+use Rattle.puncalc_program.specs.Writing.{Sunk, WritesAll, WritesPart}
 
 -- the statuses of a run that came to its end; one that had to stop has 5, 6 or 7
 abbrev pub IsFinal : ℕ → Type 0
-IsFinal status = (status ≡ 0) ⊎ (status ≡ 2) ⊎ (status ≡ 3)
+IsFinal status = (status ≡ 0) ⊎ (status ≡ 2) ⊎ (status ≡ 3) ⊎ (status ≡ 4)
 
 -- the statuses of all runs
 abbrev pub IsStatus : ℕ → Type 0
-IsStatus status = (status ≡ 0) ⊎ (status ≡ 2) ⊎ (status ≡ 3) ⊎ (status ≡ 5) ⊎ (status ≡ 6) ⊎ (status ≡ 7)
+IsStatus status = (status ≡ 0) ⊎ (status ≡ 2) ⊎ (status ≡ 3) ⊎ (status ≡ 4) ⊎ (status ≡ 5) ⊎ (status ≡ 6) ⊎ (status ≡ 7)
 
--- a run with this status wrote what is due: all of it with the status that is due, nothing where the input could not
--- be read, a first part where a write failed or there was no memory
-pub record RunEnds (due : Output) (status : ℕ) (before now : Option (List ℕ)) : Type 0 where
-  pub final : IsFinal status → (status ≡ due.status) × (now ≡ appended before (concat due.pieces))
-  pub nothing : status ≡ 5 → now ≡ before
-  pub part : WritesPart (concat due.pieces) before now
+-- a run with this status wrote what is due: all of it with the status that is due, and it keeps the last round; nothing
+-- where something could not be read; a first part where a write failed or there was no memory
+pub record RunEnds (due : Output) (status : ℕ) (old new : Sunk) (kept : Option OutcomeSeen) : Type 0 where
+  pub status_due : IsFinal status → status ≡ due.status
+  pub all : IsFinal status → WritesAll due.pieces old new
+  pub keeps : IsFinal status → KeptIs due.last kept
+  pub nothing : status ≡ 5 → new ≡ old
+  pub part : WritesPart due.pieces old new
+
+-- the same, where a file may be lacking, so that nothing is due
+abbrev pub Ends : Option Output → ℕ → Sunk → Sunk → Option OutcomeSeen → Type 0
+Ends (Some due) status old new kept = RunEnds due status old new kept
+Ends None status old new kept = ((status ≡ 5) ⊎ (status ≡ 7)) × (new ≡ old)
 
 -- the same of a run's inside: its status, or why it stopped
-abbrev pub Answers : Output → Option (List ℕ) → Option (List ℕ) → Result ℕ Stop → Type 0
-Answers due before now (Ok status) = (status ≡ due.status) × (now ≡ appended before (concat due.pieces))
-Answers due before now (Err Stop.Read) = now ≡ before
-Answers due before now (Err Stop.Write) = WritesPart (concat due.pieces) before now
-Answers due before now (Err Stop.Memory) = WritesPart (concat due.pieces) before now
+abbrev pub Answers : Output → Sunk → Sunk → Option OutcomeSeen → Result ℕ Stop → Type 0
+Answers due old new kept (Ok status) = (status ≡ due.status) × WritesAll due.pieces old new × KeptIs due.last kept
+Answers due old new kept (Err Stop.Read) = new ≡ old
+Answers due old new kept (Err Stop.Write) = WritesPart due.pieces old new
+Answers due old new kept (Err Stop.Memory) = WritesPart due.pieces old new
 
--- it stopped for a cause: a device whose count of faults rose, or want of memory
-abbrev pub StopsFor : (ℕ × ℕ) → (ℕ × ℕ) → Result ℕ Stop → Type 0
-StopsFor input out (Err Stop.Read) = HasRisen input.0 input.1
-StopsFor input out (Err Stop.Write) = HasRisen out.0 out.1
-StopsFor input out _ = Unit {0}
+abbrev pub AnswersAll : Option Output → Sunk → Sunk → Option OutcomeSeen → Result ℕ Stop → Type 0
+AnswersAll (Some due) old new kept result = Answers due old new kept result
+AnswersAll None old new kept (Ok status) = ⊥
+AnswersAll None old new kept (Err Stop.Read) = new ≡ old
+AnswersAll None old new kept (Err Stop.Write) = ⊥
+AnswersAll None old new kept (Err Stop.Memory) = new ≡ old
 
--- it did not stop for its input
+-- it stopped for a cause: something could not be read, for this cause; a write failed; or memory ran out
+abbrev pub StopsFor : Type 0 → Sunk → Sunk → Result ℕ Stop → Type 0
+StopsFor Cause old new (Ok status) = Unit {0}
+StopsFor Cause old new (Err Stop.Read) = Cause
+StopsFor Cause old new (Err Stop.Write) = HasRisen old.faults new.faults
+StopsFor Cause old new (Err Stop.Memory) = Unit {0}
+
+-- the folder tells its files, and lacks one that comes before the first refusal, so that nothing is due
+abbrev pub Lacks : Option Request → Option (List StoredFile) → Type 0
+Lacks request told = IsSomeAnd told (λ folder. (read : Readings) → AreReadings read → (input : List ℕ) → request_output read request folder input ≡ None)
+
+-- why something could not be read: the input's count of faults rose, or stands at its last value; for `edit` also that of
+-- the folder, or the folder lacks a file
+abbrev pub CouldNotRead : Option Request → (ℕ × ℕ) → (ℕ × ℕ) → Option (List StoredFile) → Type 0
+CouldNotRead request input folder told =
+    HasRisen input.0 input.1 ⊎ ((is_edit request ≡ true) × HasRisen folder.0 folder.1) ⊎ Lacks request told
+
+-- it did not stop for what it reads
 abbrev pub NeverReads : {A : Type 0} → Result A Stop → Type 0
 NeverReads (Ok _) = Unit {0}
 NeverReads (Err Stop.Read) = ⊥
 NeverReads (Err Stop.Write) = Unit {0}
 NeverReads (Err Stop.Memory) = Unit {0}
-
--- the same where nothing is read
-abbrev pub StopsWritingFor : {A : Type 0} → (ℕ × ℕ) → Result A Stop → Type 0
-StopsWritingFor out (Ok _) = Unit {0}
-StopsWritingFor out (Err Stop.Read) = ⊥
-StopsWritingFor out (Err Stop.Write) = HasRisen out.0 out.1
-StopsWritingFor out (Err Stop.Memory) = Unit {0}
-
--- a part of a run wrote the bytes, or a first part of them where it had to stop
-abbrev pub Writes : List ℕ → Option (List ℕ) → Option (List ℕ) → Result (Unit {0}) Stop → Type 0
-Writes bytes before now (Ok _) = now ≡ appended before bytes
-Writes bytes before now (Err _) = WritesPart bytes before now

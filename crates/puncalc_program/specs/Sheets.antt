@@ -1,15 +1,10 @@
 -- How a sheet is written.
 use Rattle.std.specs.Prelude.{ℕ, List, map}
-use Rattle.cell_values.specs.declared.address.Addr.{Addr}
 use Rattle.cell_values.specs.Areas.{numbers_from}
-use Rattle.cell_values.specs.ShownText.{shown_text}
-use Rattle.demand_spec.specs.Book.{Book, shown}
+use Rattle.demand_spec.specs.Book.{Book}
 use Rattle.demand_spec.specs.Sheets.{last_row, last_column}
 use Rattle.sheet_csv.specs.Row.{row_text}
-
--- the text that a cell shows
-abbrev pub cell_shows : Book → Addr → List ℕ
-cell_shows b at = shown_text b.texts (shown b at)
+use Rattle.puncalc_program.specs.Cells.{cell_shows}
 
 -- the texts of a row's first cells
 abbrev pub row_texts : Book → ℕ → ℕ → ℕ → List (List ℕ)

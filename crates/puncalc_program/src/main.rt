@@ -2,16 +2,19 @@
 //! values and with marks for cycles.
 #![tactic(auto)]
 
-mod load;
+mod commands;
+mod desk;
+mod files;
+mod lines;
+mod names;
 mod refusals;
 mod run;
-mod sheet;
-mod show;
+mod script;
 mod stop;
-#[cfg(test)]
-mod tests;
+mod writing;
 
-use byte_streams::{StdSink, StdSource};
+use byte_streams::{StdFolder, StdSink, StdSource};
+use recalculation::NoPace;
 use std::alloc::Global;
 use std::process::ExitCode;
 use std::{env, io};
@@ -24,9 +27,21 @@ fn main(rt: HostRuntime) -> ExitCode {
         // A word that is no UTF-8 is none that is accepted.
         Err(_) => Vec::new(alloc),
     };
+    let mut folder = StdFolder::new(&rt);
     let mut input = StdSource::new(rt.stdin());
     let mut out = StdSink::new(rt.stdout());
-    ExitCode::from(run::run(alloc, &words, &mut input, &mut out))
+    let mut kept = None;
+    let status = run::run(
+        &rt,
+        alloc,
+        &words,
+        &mut folder,
+        &mut input,
+        &mut out,
+        &NoPace,
+        &mut kept,
+    );
+    ExitCode::from(status)
 }
 
 /// The words behind the program's name.

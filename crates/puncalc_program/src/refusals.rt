@@ -1,121 +1,116 @@
-//! Why the program refuses its words or its input.
+//! Why a run refuses its words, its files or its script, in words.
 
-ghost use Rattle.std.specs.Prelude.{◌≡◌};
-ghost use Rattle.puncalc_program.specs.Refusals.{fault_name, IsInSheet};
+ghost use Rattle.std.specs.Prelude.{◌≡◌, ◌<◌, length, IfOk, string_bytes};
+ghost use Rattle.cell_values.specs.Addresses.{IsOnSheet};
+ghost use Rattle.sheet_loading.specs.Faults.{IsInSheet};
+ghost use Rattle.puncalc_program.specs.Refusals.{field_fault_name, formula_fault, line_fault, line_refused, name_refused, refusal_line, sheet_refused};
 
-use cell_values::Addr;
+use crate::names::{cell_name, sheet_name};
+use cell_values::SheetNames;
 use formula_grammar::FaultKind;
+use sheet_loading::{FieldFault, SheetRefusal};
 use std::alloc::{AllocError, Global};
 
-/// Why a field of the sheet is refused.
+/// Why a line of a script is refused.
 #[derive(Clone, Copy, Debug, PartialEq, Eq)]
-pub enum FieldFault {
-    /// S1: its bytes are no UTF-8.
-    NotUtf8,
-    /// S2: it is not empty and lies outside the sheet.
-    OutOfSheet,
-    /// S3: it is not empty, and too many such fields stand before it.
+pub enum LineRefusal {
+    /// E1: its command is none that there is.
+    UnknownCommand,
+    /// E2: a cell, an area or a sheet's name in it is missing, has another form or lies outside the sheets, or something
+    /// stands behind the command's words.
+    BadReference,
+    /// E3: it puts a formula with a fault: its place, counted in bytes from 0 at the `=`, and the fault.
+    BadFormula(u32, FaultKind),
+    /// E4: with it the book would have too many cells.
     TooManyCells,
+    /// E5: its bytes are no UTF-8.
+    NotUtf8,
 }
 
-/// Why the words or the input are refused.
-#[derive(Clone, Copy, Debug, PartialEq, Eq)]
-pub enum Refusal {
-    /// The words are not accepted.
-    Words,
-    /// S4: the sheet has too many bytes.
-    TooLong,
-    /// A field of the sheet: its row and column, counted from 1, and its fault.
-    Field(usize, usize, FieldFault),
-    /// The formula of a cell: the place of its fault, counted in bytes from 0 at the `=`, and the fault.
-    Formula(Addr, u32, FaultKind),
-}
-
-impl FieldFault {
-    fn name(&self) -> &'static str
-        ensures { result.now ≡ fault_name self.now }
-    {
-        match self {
-            FieldFault::NotUtf8 => "S1",
-            FieldFault::OutOfSheet => "S2",
-            FieldFault::TooManyCells => "S3",
-        }
-    }
-}
-
-impl Refusal {
-    ghost use Rattle.puncalc_program.specs.Refusals.{refusal_status};
-
-    /// The status that the program ends with.
-    pub fn status(&self) -> u8
-        ensures { result ≡ refusal_status self.now }
-    {
-        match self {
-            Refusal::Words => 2,
-            _ => 3,
-        }
-    }
-}
-
-impl Refusal {
-    ghost use Rattle.std.specs.Prelude.{IfOk, string_bytes};
-    ghost use Rattle.puncalc_program.specs.Refusals.{refusal_line, refusal_text};
-
-    /// The line that tells of the refusal.
-    pub(crate) fn line(&self, alloc: Global) -> Result<String, AllocError>
-        requires { IsInSheet self.now }
-        ensures { IfOk result (λ line. string_bytes line ≡ refusal_line self.now) }
-    {
-        let mut line = self.text(alloc)?;
-        line.push_str("\n")?;
-        Ok(line)
-    }
-
-    fn text(&self, alloc: Global) -> Result<String, AllocError>
-        requires { IsInSheet self.now }
-        ensures { IfOk result (λ text. string_bytes text ≡ refusal_text self.now) }
-    {
-        match self {
-            Refusal::Words => String::from_str(alloc, "refused words"),
-            Refusal::TooLong => String::from_str(alloc, "refused Sheet1: S4"),
-            Refusal::Field(row, col, fault) => field_text(alloc, *row, *col, *fault),
-            Refusal::Formula(cell, place, kind) => formula_text(alloc, *cell, *place, *kind),
-        }
-    }
-}
-
-ghost use Rattle.std.specs.Prelude.{IfOk, string_bytes};
-ghost use Rattle.cell_values.specs.Addresses.{IsOnSheet};
-ghost use Rattle.puncalc_program.specs.Refusals.{refusal_text};
-ghost use Rattle.puncalc_program.specs.declared.refusals.Refusal.{Refusal};
-
-fn field_text(
-    alloc: Global,
-    row: usize,
-    col: usize,
-    fault: FieldFault,
-) -> Result<String, AllocError>
-    ensures { IfOk result (λ text. string_bytes text ≡ refusal_text (Refusal.Field row col fault)) }
+/// The line that tells what is refused, with its end.
+#[tactic(auto, unfolding(crate::specs::Refusals::refusal_line))]
+pub(crate) fn refusal_line(alloc: Global, what: &str) -> Result<String, AllocError>
+    ensures { IfOk result (λ line. string_bytes line ≡ refusal_line what.now) }
 {
-    let mut text = String::from_str(alloc, "refused Sheet1")?;
-    write!(text, " row {row} column {col}: ")?;
-    text.push_str(fault.name())?;
-    Ok(text)
+    format!(in alloc; "refused {what}\n")
 }
 
-fn formula_text(
-    alloc: Global,
-    cell: Addr,
-    place: u32,
-    kind: FaultKind,
-) -> Result<String, AllocError>
-    requires { IsOnSheet cell }
-    ensures { IfOk result (λ text. string_bytes text ≡ refusal_text (Refusal.Formula cell place kind)) }
+/// A sheet's name is refused: the one with this number, counted from 1.
+pub(crate) fn name_refused(alloc: Global, number: usize) -> Result<String, AllocError>
+    ensures { IfOk result (λ what. string_bytes what ≡ name_refused number) }
 {
-    let mut text = String::from_str(alloc, "refused Sheet1!")?;
-    let name = cell.cell_text(alloc)?;
-    text.push_str(&name)?;
+    format!(in alloc; "sheet {number}: S5")
+}
+
+/// A sheet is refused.
+pub(crate) fn sheet_refused(
+    alloc: Global,
+    names: &SheetNames,
+    sheet: u8,
+    why: SheetRefusal,
+) -> Result<String, AllocError>
+    requires sheet { sheet < length names.now }
+    requires place { IsInSheet sheet why }
+    ensures { IfOk result (λ what. string_bytes what ≡ sheet_refused names.now sheet why) }
+{
+    match why {
+        SheetRefusal::TooLong => {
+            let name = sheet_name(alloc, names, sheet)?;
+            format!(in alloc; "{name}: S4")
+        }
+        SheetRefusal::Field { row, col, fault } => {
+            let mut what = sheet_name(alloc, names, sheet)?;
+            write!(what, " row {row} column {col}: ")?;
+            what.push_str(field_fault_name(fault))?;
+            Ok(what)
+        }
+        SheetRefusal::Formula { at, place, kind } => {
+            let mut what = cell_name(alloc, names, at)?;
+            what.push_str(&formula_fault(alloc, place, kind)?)?;
+            Ok(what)
+        }
+    }
+}
+
+fn field_fault_name(fault: FieldFault) -> &'static str
+    ensures { result.now ≡ field_fault_name fault }
+{
+    match fault {
+        FieldFault::NotUtf8 => "S1",
+        FieldFault::OutOfSheet => "S2",
+        FieldFault::TooManyCells => "S3",
+    }
+}
+
+fn formula_fault(alloc: Global, place: u32, kind: FaultKind) -> Result<String, AllocError>
+    ensures { IfOk result (λ text. string_bytes text ≡ formula_fault place kind) }
+{
     let number = kind.number();
-    write!(text, " at {place}: F{number}")?;
+    let mut text = String::from_str(alloc, " at ")?;
+    write!(text, "{place}: F{number}")?;
     Ok(text)
+}
+
+/// A line is refused: the one with this number, counted from 1.
+pub(crate) fn line_refused(
+    alloc: Global,
+    number: usize,
+    why: LineRefusal,
+) -> Result<String, AllocError>
+    ensures { IfOk result (λ what. string_bytes what ≡ line_refused number why) }
+{
+    let fault = line_fault(alloc, why)?;
+    format!(in alloc; "line {number}{fault}")
+}
+
+fn line_fault(alloc: Global, why: LineRefusal) -> Result<String, AllocError>
+    ensures { IfOk result (λ text. string_bytes text ≡ line_fault why) }
+{
+    match why {
+        LineRefusal::UnknownCommand => String::from_str(alloc, ": E1"),
+        LineRefusal::BadReference => String::from_str(alloc, ": E2"),
+        LineRefusal::BadFormula(place, kind) => formula_fault(alloc, place, kind),
+        LineRefusal::TooManyCells => String::from_str(alloc, ": E4"),
+        LineRefusal::NotUtf8 => String::from_str(alloc, ": E5"),
+    }
 }

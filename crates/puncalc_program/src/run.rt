@@ -1,52 +1,71 @@
 //! The top call.
 
-ghost use Rattle.std.specs.Prelude.{◌≡◌, ◌≢◌, ◌≤◌, ◌+◌, [], false, IfSome, IfOk, map, string_bytes};
+ghost use Rattle.std.specs.Prelude.{◌≡◌, ◌≢◌, ◌≤◌, ◌+◌, [], List, true, false, None, Some, IfSome, IfOk, map, string_bytes};
 ghost use Rattle.std.specs.Option.{option_map};
 ghost use Rattle.byte_streams.specs.Faults.{HasRisen};
-ghost use Rattle.formula_grammar.specs.Reading.{Reading, IsReading};
-ghost use Rattle.puncalc_program.specs.Loading.{the_names};
-ghost use Rattle.puncalc_program.specs.Output.{are_accepted, output, refusal, sheet_output};
-ghost use Rattle.puncalc_program.specs.Run.{IsStatus, RunEnds};
-ghost use Rattle.puncalc_program.specs.declared.run.TheConstants.{SHEET_BYTES};
+ghost use Rattle.byte_streams.specs.Folders.{StoredFile};
+ghost use Rattle.command_words.specs.Asking.{asked, request_of};
+ghost use Rattle.command_words.specs.Sound.{IsSound};
+ghost use Rattle.sheet_loading.specs.declared.TheConstants.{SHEET_BYTES};
+ghost use Rattle.puncalc_program.specs.Output.{are_accepted, asks_for_files, is_edit, is_there, output, request_output, words_refused, AreReadings, Readings};
+ghost use Rattle.puncalc_program.specs.Run.{Answers, AnswersAll, CouldNotRead, Ends, IsFinal, IsStatus, NeverReads, RunEnds, StopsFor};
+ghost use Rattle.puncalc_program.specs.Writing.{sunk};
 
-use crate::refusals::Refusal;
-use crate::show::{refuse, show};
+use crate::commands::{edit, show};
+use crate::desk::Workers;
 use crate::stop::Stop;
-use byte_streams::{ReadFault, Sink, Source, read_all};
+use crate::writing::refuse;
+use byte_streams::{Folder, Sink, Source};
+use claim_core::Outcome;
 use command_words::{Asked, read_words};
 use formula_grammar::laws::law_one_reading;
+use recalculation::Pace;
 use std::alloc::Global;
-
-/// The most bytes of all sheets together: 64 MiB.
-const SHEET_BYTES: usize = 67_108_864;
+use std::thread::Threads;
 
 /// Runs the program on the words that stand behind its name, and answers its status.
 ///
-/// It is 0 where the sheet was recalculated and written, 2 where the words are refused, 3 where the
-/// sheet is refused, 5 where the input could not be read, 6 where the output could not be written, and
-/// 7 where there was no memory. The number of workers is read and has no effect yet.
-#[tactic(auto, using(crate::proofs::Ends::told_ends_ok, crate::proofs::Ends::ends_ok))]
-pub fn run<S: Source, K: Sink>(alloc: Global, words: &Vec<String>, input: &mut S, out: &mut K) -> u8
-    ensures ends { IfSome (S.left input.old)
-        (λ bytes. (read : Reading) → IsReading the_names read → RunEnds (output read (map string_bytes words.now.items) bytes) result (K.written out.old) (K.written out.new)) }
+/// `show` reads one sheet from the input; `edit` fetches its sheets from the folder, and reads a script from the input.
+/// The status is 0 where all was accepted, 2 where the words are refused, 3 where a sheet or its name is refused, 4 where
+/// the script or a line of it is refused, 5 where the input or a file could not be read, 6 where the output could not be
+/// written, and 7 where there was no memory. `kept` gets the closed round of the last recalculation that had something to
+/// do, or nothing; where the status is 5, 6 or 7 it may hold anything.
+pub fn run<R: Threads + Sync, D: Folder, S: Source, K: Sink, P: Pace>(
+    rt: &R,
+    alloc: Global,
+    words: &Vec<String>,
+    folder: &mut D,
+    input: &mut S,
+    out: &mut K,
+    pace: &P,
+    kept: &mut Option<Outcome>,
+) -> u8
+    ensures ends { (files : List StoredFile) → (asks_for_files (map string_bytes words.now.items) ≡ true → D.files folder.old ≡ Some files) →
+        IfSome (S.left input.old) (λ bytes. (read : Readings) → AreReadings read →
+        Ends (output read (map string_bytes words.now.items) files bytes) result (sunk K.written K.faults K.calls out.old) (sunk K.written K.faults K.calls out.new) kept.new) }
     // There is a reading of all texts, and any two agree on each formula.
-    ensures readable { (read : Reading) × IsReading the_names read }
+    ensures readable { (read : Readings) × AreReadings read }
     ensures statuses { IsStatus result }
     ensures read_whole { result ≡ 0 → S.left input.new ≡ option_map (λ _. []) (S.left input.old) }
 
     // The words alone decide on status 2, and nothing is read then.
     ensures refused_words { are_accepted (map string_bytes words.now.items) ≡ false →
-        RunEnds (refusal Refusal.Words) result (K.written out.old) (K.written out.new) }
+        RunEnds words_refused result (sunk K.written K.faults K.calls out.old) (sunk K.written K.faults K.calls out.new) kept.new }
     ensures unread { are_accepted (map string_bytes words.now.items) ≡ false →
         (S.left input.new ≡ S.left input.old) × (S.faults input.new ≡ S.faults input.old) × (S.calls input.new ≡ S.calls input.old) × (result ≢ 5) }
     ensures words_alone { result ≡ 2 → are_accepted (map string_bytes words.now.items) ≡ false }
 
-    ensures read_failed { result ≡ 5 → HasRisen (S.faults input.old) (S.faults input.new) }
+    // The folder is asked for the files of `edit` alone, and goes on telling what it told.
+    ensures unfetched { asks_for_files (map string_bytes words.now.items) ≡ false → D.faults folder.new ≡ D.faults folder.old }
+    ensures same_files { D.files folder.new ≡ D.files folder.old }
+
+    ensures read_failed { result ≡ 5 → CouldNotRead (asked (map string_bytes words.now.items)) (S.faults input.old, S.faults input.new) (D.faults folder.old, D.faults folder.new) (D.files folder.old) }
     ensures write_failed { result ≡ 6 → HasRisen (K.faults out.old) (K.faults out.new) }
     ensures few_reads { S.calls input.new ≤ S.calls input.old + SHEET_BYTES + 1 }
 {
     law_one_reading();
-    match answer(alloc, words, input, out) {
+    *kept = None;
+    match answer(rt, alloc, words, folder, input, out, pace, kept) {
         Ok(status) => status,
         Err(Stop::Read) => 5,
         Err(Stop::Write) => 6,
@@ -54,49 +73,85 @@ pub fn run<S: Source, K: Sink>(alloc: Global, words: &Vec<String>, input: &mut S
     }
 }
 
-ghost use Rattle.puncalc_program.specs.Run.{Answers, IsFinal, NeverReads, StopsFor};
-
 /// The status of a run that did not have to stop.
-#[tactic(auto, using(crate::proofs::Ends::told_accepted, crate::proofs::Ends::told_refused))]
-fn answer<S: Source, K: Sink>(
+#[tactic(auto, unfolding(crate::specs::Output::output))]
+fn answer<R: Threads + Sync, D: Folder, S: Source, K: Sink, P: Pace>(
+    rt: &R,
     alloc: Global,
     words: &Vec<String>,
+    folder: &mut D,
     input: &mut S,
     out: &mut K,
+    pace: &P,
+    kept: &mut Option<Outcome>,
 ) -> Result<u8, Stop>
-    ensures answers { IfSome (S.left input.old)
-        (λ bytes. (read : Reading) → IsReading the_names read → Answers (output read (map string_bytes words.now.items) bytes) (K.written out.old) (K.written out.new) result) }
+    requires { kept.old ≡ None }
+    ensures answers { (files : List StoredFile) → (is_edit (asked (map string_bytes words.now.items)) ≡ true → D.files folder.old ≡ Some files) →
+        IfSome (S.left input.old) (λ bytes. (read : Readings) → AreReadings read →
+        AnswersAll (request_output read (asked (map string_bytes words.now.items)) files bytes) (sunk K.written K.faults K.calls out.old) (sunk K.written K.faults K.calls out.new) kept.new result) }
     ensures read_whole { IfOk result (λ status. status ≡ 0 → S.left input.new ≡ option_map (λ _. []) (S.left input.old)) }
-    ensures refused_words { are_accepted (map string_bytes words.now.items) ≡ false →
-        Answers (refusal Refusal.Words) (K.written out.old) (K.written out.new) result }
-    ensures unread { are_accepted (map string_bytes words.now.items) ≡ false →
+    ensures refused_words { is_there (asked (map string_bytes words.now.items)) ≡ false →
+        Answers words_refused (sunk K.written K.faults K.calls out.old) (sunk K.written K.faults K.calls out.new) kept.new result }
+    ensures unread { is_there (asked (map string_bytes words.now.items)) ≡ false →
         (S.left input.new ≡ S.left input.old) × (S.faults input.new ≡ S.faults input.old) × (S.calls input.new ≡ S.calls input.old) × NeverReads result }
-    ensures words_alone { IfOk result (λ status. status ≡ 2 → are_accepted (map string_bytes words.now.items) ≡ false) }
-    ensures ended { IfOk result (λ status. IsFinal status) }
-    ensures causes { StopsFor (S.faults input.old, S.faults input.new) (K.faults out.old, K.faults out.new) result }
+    ensures words_alone { IfOk result (λ status. status ≡ 2 → is_there (asked (map string_bytes words.now.items)) ≡ false) }
+    ensures unfetched { is_edit (asked (map string_bytes words.now.items)) ≡ false → D.faults folder.new ≡ D.faults folder.old }
+    ensures same_files { D.files folder.new ≡ D.files folder.old }
+    ensures ended { IfOk result IsFinal }
+    ensures causes { StopsFor (CouldNotRead (asked (map string_bytes words.now.items)) (S.faults input.old, S.faults input.new) (D.faults folder.old, D.faults folder.new) (D.files folder.old))
+        (sunk K.written K.faults K.calls out.old) (sunk K.written K.faults K.calls out.new) result }
     ensures few_reads { S.calls input.new ≤ S.calls input.old + SHEET_BYTES + 1 }
 {
-    match read_words(alloc, words)? {
-        Some(Asked::Show { .. }) => show_input(alloc, input, out),
-        _ => refuse(alloc, Refusal::Words, out),
-    }
+    let asked = read_words(alloc, words)?;
+    act(rt, alloc, asked, folder, input, out, pace, kept)
 }
 
-/// Reads the input to its end, and shows its sheet.
-#[tactic(auto, using(crate::proofs::Ends::told_too_long, crate::proofs::Ends::told_fits))]
-fn show_input<S: Source, K: Sink>(alloc: Global, input: &mut S, out: &mut K) -> Result<u8, Stop>
-    ensures answers { IfSome (S.left input.old)
-        (λ bytes. (read : Reading) → IsReading the_names read → Answers (sheet_output read bytes) (K.written out.old) (K.written out.new) result) }
+/// The same, of what the words ask for.
+fn act<R: Threads + Sync, D: Folder, S: Source, K: Sink, P: Pace>(
+    rt: &R,
+    alloc: Global,
+    asked: Option<Asked>,
+    folder: &mut D,
+    input: &mut S,
+    out: &mut K,
+    pace: &P,
+    kept: &mut Option<Outcome>,
+) -> Result<u8, Stop>
+    requires sound { IfSome asked (λ a. IsSound (request_of a)) }
+    requires kept { kept.old ≡ None }
+    ensures answers { (files : List StoredFile) → (is_edit (option_map request_of asked) ≡ true → D.files folder.old ≡ Some files) →
+        IfSome (S.left input.old) (λ bytes. (read : Readings) → AreReadings read →
+        AnswersAll (request_output read (option_map request_of asked) files bytes) (sunk K.written K.faults K.calls out.old) (sunk K.written K.faults K.calls out.new) kept.new result) }
     ensures read_whole { IfOk result (λ status. status ≡ 0 → S.left input.new ≡ option_map (λ _. []) (S.left input.old)) }
-    ensures accepted { IfOk result (λ status. status ≢ 2) }
-    ensures ended { IfOk result (λ status. IsFinal status) }
-    ensures causes { StopsFor (S.faults input.old, S.faults input.new) (K.faults out.old, K.faults out.new) result }
+    ensures refused_words { is_there (option_map request_of asked) ≡ false →
+        Answers words_refused (sunk K.written K.faults K.calls out.old) (sunk K.written K.faults K.calls out.new) kept.new result }
+    ensures unread { is_there (option_map request_of asked) ≡ false →
+        (S.left input.new ≡ S.left input.old) × (S.faults input.new ≡ S.faults input.old) × (S.calls input.new ≡ S.calls input.old) × NeverReads result }
+    ensures words_alone { IfOk result (λ status. status ≡ 2 → is_there (option_map request_of asked) ≡ false) }
+    ensures unfetched { is_edit (option_map request_of asked) ≡ false → D.faults folder.new ≡ D.faults folder.old }
+    ensures same_files { D.files folder.new ≡ D.files folder.old }
+    ensures ended { IfOk result IsFinal }
+    ensures causes { StopsFor (CouldNotRead (option_map request_of asked) (S.faults input.old, S.faults input.new) (D.faults folder.old, D.faults folder.new) (D.files folder.old))
+        (sunk K.written K.faults K.calls out.old) (sunk K.written K.faults K.calls out.new) result }
     ensures few_reads { S.calls input.new ≤ S.calls input.old + SHEET_BYTES + 1 }
 {
-    match read_all(alloc, input, SHEET_BYTES) {
-        Ok(bytes) => show(alloc, &bytes, out),
-        Err(ReadFault::TooLong) => refuse(alloc, Refusal::TooLong, out),
-        Err(ReadFault::Failed) => Err(Stop::Read),
-        Err(ReadFault::OutOfMemory) => Err(Stop::Memory),
+    match asked {
+        Some(Asked::Show { workers }) => {
+            let workers = Workers {
+                rt,
+                pace,
+                count: workers,
+            };
+            show(alloc, &workers, input, out, kept)
+        }
+        Some(Asked::Edit { workers, files }) => {
+            let workers = Workers {
+                rt,
+                pace,
+                count: workers,
+            };
+            edit(alloc, &workers, &files, folder, input, out, kept)
+        }
+        _ => refuse(alloc, 2, "words", out),
     }
 }

@@ -1,18 +1,14 @@
 -- Edits of a workbook, by the edits of its cells.
-use Rattle.std.proofs.Common.{◌≡◌, ℕ, Result, Ok, Err, OnOk, IfErr, Option, Some, None, option_map, refl, sym, ap, ◌∙◌, subst}
-use Rattle.std.specs.Prelude.{MatchResult}
+use Rattle.std.proofs.Common.{◌≡◌, Result, Ok, Err, OnOk, Option, None, refl, subst}
 use Rattle.cell_values.specs.declared.address.Addr.{Addr}
 use Rattle.cell_values.specs.declared.address.Area.{Area}
 use Rattle.cell_values.specs.declared.fields.Raw.{Raw}
 use Rattle.demand_spec.specs.Book as book
 use Rattle.demand_spec.specs.Edits.{Put, Copy, IsApplied, IsTooLarge}
 use Rattle.demand_spec.proofs.Applied.{applied_only}
-use Rattle.shared_expressions.specs.Trees.{Trees, tree_at}
-use Rattle.workbook_core.specs.declared.Content.{Content}
 use Rattle.workbook_core.specs.declared.edits.EditFault.{EditFault}
 use Rattle.workbook_core.specs.Books.{SharedBook, IsWorkbook}
-use Rattle.workbook_core.specs.Edits.{Puts, with_field, IsPutFault, IsCopyFault, IsTooMany}
-use Rattle.workbook_core.specs.Held.{content_in}
+use Rattle.workbook_core.specs.Edits.{Puts, with_field, IsPutFault, IsCopyFault}
 use Rattle.recalculation.specs.declared.edit.Edit.{Edit}
 use Rattle.recalculation.specs.Edits.{IsEdited, IsFaultOf, MakesTooLarge}
 

@@ -1,5 +1,5 @@
 -- What is kept beside a workbook that is edited.
-use Rattle.std.proofs.Common.{◌≡◌, Bool, true, false, cond, inl, List, [], length, refl, sym, ap, ◌∙◌, subst}
+use Rattle.std.proofs.Common.{◌≡◌, Bool, true, false, cond, inl, [], length, refl, sym, ap, ◌∙◌, subst}
 use Rattle.cell_values.specs.Areas.{is_inside}
 use Rattle.cell_values.specs.Interned.{KeepsTexts}
 use Rattle.cell_values.specs.Order.{InOrder, addresses}

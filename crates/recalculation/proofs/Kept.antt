@@ -1,10 +1,9 @@
 -- What is kept beside a workbook is right for an edited one but for the area of the edit.
-use Rattle.std.proofs.Common.{◌≡◌, ℕ, ◌<◌, Bool, true, false, ◌⊎◌, inl, inr, ⊎_elim, List, Some, IsSome, option_map, refl, sym, ap, ◌∙◌, subst}
+use Rattle.std.proofs.Common.{◌≡◌, ℕ, ◌<◌, true, false, ◌⊎◌, inl, inr, ⊎_elim, Some, IsSome, option_map, refl, sym, ap, ◌∙◌, subst}
 use Rattle.std.proofs.lemmas.Bool.{cases_Bool}
 use Rattle.cell_values.specs.declared.address.Addr.{Addr}
-use Rattle.cell_values.specs.Order.{InOrder, addresses, entry_at}
 use Rattle.formula_trees.specs.Mentions.{areas}
-use Rattle.demand_spec.specs.Book.{Book, formula_at, formulas, shown}
+use Rattle.demand_spec.specs.Book.{Book, formula_at}
 use Rattle.demand_spec.specs.Laws.{In, Mentions, Reached, start, step, Set, OfSet, SameOutside, TextsStay}
 use Rattle.demand_spec.proofs.Local.{shows_same}
 use Rattle.recalculation.specs.declared.progress.Progress.{Progress}

@@ -7,3 +7,6 @@ pub mod Edited
 pub mod Linked
 pub mod Walked
 pub mod Followed
+pub mod Storing
+pub mod Ready
+pub mod PlainBooks

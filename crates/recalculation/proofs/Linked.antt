@@ -1,15 +1,12 @@
 -- The support of a workbook, cell by cell.
-use Rattle.std.proofs.Common.{◌≡◌, Bool, true, false, cond, ◌||◌, List, [], ◌∷◌, Option, Some, None, option_map, refl, sym, ap, ◌∙◌, subst}
-use Rattle.std.specs.List.{list_any}
-use Rattle.std.specs.Prelude.{drop}
+use Rattle.std.proofs.Common.{◌≡◌, Bool, true, false, cond, ◌||◌, List, [], ◌∷◌, Some, None, refl, sym, ap, ◌∙◌}
 use Rattle.cell_values.specs.declared.address.Addr.{Addr}
 use Rattle.cell_values.specs.declared.address.Area.{Area}
 use Rattle.cell_values.specs.Addresses.{same_addr}
 use Rattle.cell_values.specs.Areas.{walk, is_inside}
 use Rattle.cell_values.specs.Order.{entry_at}
 use Rattle.cell_values.proofs.Order.{same_addr-true, same_addr-sym}
-use Rattle.formula_trees.specs.Mentions.{areas}
-use Rattle.demand_spec.specs.Book.{Book, formula_at}
+use Rattle.demand_spec.specs.Book.{Book}
 use Rattle.demand_spec.specs.Laws.{Set}
 use Rattle.demand_spec.proofs.Members.{walk_holds}
 use Rattle.support_graph.specs.Pending.{among}

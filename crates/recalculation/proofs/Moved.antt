@@ -1,12 +1,12 @@
 -- What an edit leaves as it was: the cells outside its area, and the texts of cells and formulas.
-use Rattle.std.proofs.Common.{◌≡◌, ℕ, ◌<◌, Bool, true, false, cond, List, [], length, take, Option, Some, None, slice_index_or, refl, sym, ap, ◌∙◌, subst, arith}
+use Rattle.std.proofs.Common.{◌≡◌, ℕ, ◌<◌, Bool, true, false, cond, [], length, Option, Some, None, slice_index_or, refl, sym, ap, ◌∙◌, subst, arith}
 use Rattle.std.proofs.lemmas.List.{get_or-take}
 use Rattle.cell_values.specs.declared.address.Addr.{Addr}
 use Rattle.cell_values.specs.declared.address.Area.{Area}
 use Rattle.cell_values.specs.Addresses.{same_addr}
 use Rattle.cell_values.specs.Areas.{one_cell, is_inside}
 use Rattle.cell_values.specs.Interned.{KeepsTexts}
-use Rattle.cell_values.specs.Order.{InOrder, addresses, entry_at}
+use Rattle.cell_values.specs.Order.{entry_at}
 use Rattle.cell_values.specs.Texts.{Texts}
 use Rattle.cell_values.proofs.Order.{same_addr-true}
 use Rattle.formula_trees.specs.Expr.{Expr}

@@ -1,26 +1,22 @@
 -- What is kept beside a workbook once support and pending cells are brought up to date.
-use Rattle.std.proofs.Common.{◌≡◌, Bool, true, false, ◌⊎◌, inl, inr, ⊎_elim, List, [], Option, Some, None, IsSome, option_map, refl, sym, ap, ◌∙◌, subst}
+use Rattle.std.proofs.Common.{◌≡◌, true, false, ◌⊎◌, inl, inr, ⊎_elim, List, [], Option, Some, IsSome, refl, sym, ap, ◌∙◌, subst}
 use Rattle.std.specs.Prelude.{◌↔◌}
 use Rattle.cell_values.specs.declared.address.Addr.{Addr}
-use Rattle.cell_values.specs.declared.address.Area.{Area}
-use Rattle.cell_values.specs.Areas.{is_inside}
 use Rattle.cell_values.specs.Order.{InOrder, addresses, entry_at}
-use Rattle.formula_trees.specs.Mentions.{areas}
-use Rattle.demand_spec.specs.Book.{Book, formula_at, formulas, shown}
+use Rattle.demand_spec.specs.Book.{Book, formula_at, formulas}
 use Rattle.demand_spec.specs.Edits.{pending_after}
 use Rattle.demand_spec.specs.Laws.{In, Mentions, Reached, start, step, Set, OfSet, Pending}
 use Rattle.demand_spec.proofs.OneList.{one_list}
 use Rattle.demand_spec.proofs.Rounds.{in_formulas}
 use Rattle.demand_spec.proofs.Spread.{pending_listed, formulas_order, formulas_hold}
-use Rattle.support_graph.specs.Pending.{IsClosedBut, ArePendingIn}
-use Rattle.support_graph.specs.Support.{CellAreas, IsCell, IsSupportOf}
+use Rattle.support_graph.specs.Pending.{IsClosedBut}
+use Rattle.support_graph.specs.Support.{CellAreas, IsSupportOf}
 use Rattle.support_graph.proofs.Books.{reads_mentions, cell_formula, formula_cell}
 use Rattle.support_graph.proofs.Reach.{cell_in, cell_listed}
 use Rattle.recalculation.specs.declared.progress.Progress.{Progress}
 use Rattle.recalculation.specs.Calculations.{has_result}
 use Rattle.recalculation.specs.Standing.{IsProgressBut, IsProgress}
 use Rattle.recalculation.proofs.Results.{result_formula, result_settled, result_there, some_tree, none_settled}
-use Rattle.recalculation.proofs.Kept.{never_reached}
 
 some_of : {X : Type 0} (o : Option X) (x : X) → o ≡ Some x → IsSome o
 some_of o x e = subst IsSome (sym e) refl

@@ -1,5 +1,5 @@
 -- The support of a workbook, by a walk over its cells.
-use Rattle.std.proofs.Common.{◌≡◌, ℕ, ◌<◌, ◌≤◌, Bool, true, false, cond, inl, inr, List, [], ◌∷◌, length, Option, Some, None, option_map, refl, sym, ap, ◌∙◌, subst, arith}
+use Rattle.std.proofs.Common.{◌≡◌, ◌<◌, ◌≤◌, Bool, true, false, cond, inl, inr, [], ◌∷◌, length, Option, Some, None, option_map, refl, sym, ap, ◌∙◌, subst, arith}
 use Rattle.std.specs.List.{filter}
 use Rattle.cell_values.specs.declared.address.Addr.{Addr}
 use Rattle.cell_values.specs.Addresses.{same_addr, IsBefore}
@@ -18,7 +18,7 @@ use Rattle.recalculation.specs.Standing.{areas_at, Links}
 before_itself : (a : Addr) → is_before a a ≡ false
 before_itself a = grind arith
 
-before_of : (a b : Addr) → is_before a b ≡ true → IsBefore a b
+pub before_of : (a b : Addr) → is_before a b ≡ true → IsBefore a b
 before_of a b h = grind (arith, h)
 
 before_is : (a b : Addr) → IsBefore a b → is_before a b ≡ true
@@ -29,13 +29,13 @@ before_is a b (inr (e, inr (f, h))) = grind (arith, e, f, h)
 before_through : (a b c : Addr) → is_before a b ≡ true → is_before b c ≡ true → is_before a c ≡ true
 before_through a b c h k = before_is a c (before_trans a b c (before_of a b h) (before_of b c k))
 
-after_through : (o : Option Addr) (x c : Addr) → lies_after o x ≡ true → is_before x c ≡ true → lies_after o c ≡ true
+pub after_through : (o : Option Addr) (x c : Addr) → lies_after o x ≡ true → is_before x c ≡ true → lies_after o c ≡ true
 after_through None x c h k = refl
 after_through (Some a) x c h k = before_through a x c h k
 
 -- the next cell
 
-next_after : (cells : Cells) (o : Option Addr) (x : Addr) → next_in cells o ≡ Some x → lies_after o x ≡ true
+pub next_after : (cells : Cells) (o : Option Addr) (x : Addr) → next_in cells o ≡ Some x → lies_after o x ≡ true
 next_after [] o x e = cc
 next_after (y ∷ cells) o x e = go (lies_after o y.0) refl e (next_after cells o x)
   where

@@ -1,4 +1,4 @@
 pub mod Calculations
 pub mod Edits
-pub mod Summaries
 pub mod Standing
+pub mod Written

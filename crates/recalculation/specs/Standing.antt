@@ -1,5 +1,5 @@
 -- What is kept beside the workbook: its support, the pending cells and the results.
-use Rattle.std.specs.Prelude.{◌≡◌, Bool, true, false, cond, ◌⊎◌, List, [], IsSome, Option, Some, option_map}
+use Rattle.std.specs.Prelude.{◌≡◌, true, false, cond, ◌⊎◌, List, [], IsSome, Option, Some, option_map}
 use Rattle.cell_values.specs.declared.address.Addr.{Addr}
 use Rattle.cell_values.specs.declared.address.Area.{Area}
 use Rattle.cell_values.specs.Addresses.{same_addr}

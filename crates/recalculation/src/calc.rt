@@ -1,6 +1,6 @@
 //! A workbook with what its cells show, as far as it is computed.
 
-ghost use Rattle.std.specs.Prelude.{◌≡◌, ℕ, [], option_map, IfOk, OnOk, OnErr, IfErr, MatchResult, MatchOption};
+ghost use Rattle.std.specs.Prelude.{◌≡◌, ℕ, ◌≤◌, ◌<◌, ◌++◌, [], length, All, option_map, IfOk, OnOk, OnErr, IfErr, MatchResult, MatchOption};
 ghost use Rattle.cell_values.specs.Fields.{raw_of, IsRawOf};
 ghost use Rattle.cell_values.specs.Interned.{KeepsTexts};
 ghost use Rattle.cell_values.specs.Values.{IsShownOf};
@@ -10,6 +10,8 @@ ghost use Rattle.shared_expressions.specs.Trees.{Trees, KeepsTrees};
 ghost use Rattle.workbook_core.specs.Edits.{IsField, IsThisFault, IsTooMany};
 ghost use Rattle.workbook_core.specs.Held.{content_in};
 ghost use Rattle.support_graph.specs.Support.{IsSupportOf};
+ghost use Rattle.parallel_evaluation.specs.Order.{run_order};
+ghost use Rattle.parallel_evaluation.specs.Summaries.{IsSummaryOf};
 ghost use Rattle.recalculation.specs.Calculations.{has_result, stored_at, AreResultsOf};
 ghost use Rattle.recalculation.specs.Standing.{pending_in, seen, IsProgress};
 ghost use Rattle.recalculation.specs.Edits.{area_of, pending_by, IsEditOf, IsEdited, PutsFault, MakesTooLarge, IsFaultOf, IsLeft};
@@ -19,10 +21,13 @@ use crate::edit::Edit;
 use crate::progress::Progress;
 use cell_values::{Addr, Raw, Shown, Value};
 use demand_spec::{BookView, Results};
+use parallel_evaluation::{Summary, Traced};
 use std::alloc::{AllocError, Global};
-use std::marker::Model;
+use std::marker::{Model, Sync};
+use std::thread::Threads;
 use support_graph::Support;
 use workbook_core::{Content, EditFault, Workbook};
+use worker_machine::Pace;
 
 /// A workbook, with the results of its formula cells but for the pending ones: those that an edit changed or that
 /// depend on what changed, and that no recalculation has computed since. Contracts see the workbook and the list of
@@ -124,6 +129,51 @@ impl Calc {
         } else {
             None
         }
+    }
+
+    /// Computes the pending cells in one round with 1 to 64 workers, in threads of their own: each cell then shows what
+    /// the workbook means, whatever the number of workers and the order of their steps. `pace` hears of each step. Nothing
+    /// is pending after that; where nothing was, no round is opened.
+    ///
+    /// It fails where memory runs out, before any worker starts, and leaves all as it was.
+    pub fn recalculate<R: Threads + Sync, P: Pace>(
+        &mut self,
+        rt: &R,
+        workers: u8,
+        pace: &P,
+    ) -> Result<Summary, AllocError>
+        requires { (1 ≤ workers) × (workers ≤ 64) }
+        ensures book { self.new.shared ≡ self.old.shared }
+        ensures done { OnOk result (self.new.pending ≡ []) }
+        ensures summary { IfOk result (IsSummaryOf self.old.shared.book self.old.pending workers) }
+        ensures err { OnErr result (self.new ≡ self.old) }
+    {
+        self.progress.compute(rt, &self.book, workers, pace)
+    }
+
+    /// The same with workers that step one at a time in this thread: each worker that `order` names makes one step, and
+    /// then each that is not `stopped` runs to its end, worker 0 first. A worker is named by its number, from 0; one that
+    /// is finished makes no step. The steps are appended to `trace`.
+    ///
+    /// It fails where memory runs out, and leaves all as it was, the trace too.
+    pub fn recalculate_in_order(
+        &mut self,
+        workers: u8,
+        order: &[u8],
+        stopped: &[u8],
+        trace: &mut Vec<Traced>,
+    ) -> Result<Summary, AllocError>
+        requires workers { (1 ≤ workers) × (workers ≤ 64) }
+        requires order { All (λ w. w < workers) order.now }
+        requires stopped { length stopped.now < workers }
+        ensures book { self.new.shared ≡ self.old.shared }
+        ensures done { OnOk result (self.new.pending ≡ []) }
+        ensures summary { IfOk result (IsSummaryOf self.old.shared.book self.old.pending workers) }
+        ensures trace { OnOk result (trace.new.items ≡ trace.old.items ++ run_order self.old.shared.book self.old.pending workers order.now stopped.now) }
+        ensures err { OnErr result ((self.new ≡ self.old) × (trace.new.items ≡ trace.old.items)) }
+    {
+        self.progress
+            .compute_in_order(&self.book, workers, order, stopped, trace)
     }
 
     /// What a cell shows.

@@ -5,11 +5,17 @@ mod book;
 pub mod calc;
 pub mod edit;
 mod links;
+#[cfg(test)]
+mod plain;
 mod progress;
-pub mod summary;
+#[cfg(test)]
+mod round_tests;
+mod rounds;
+mod store;
 #[cfg(test)]
 mod tests;
 
 pub use calc::Calc;
 pub use edit::Edit;
-pub use summary::{Counts, Summary};
+pub use parallel_evaluation::{Counts, Summary, Traced};
+pub use worker_machine::{Kind, NoPace, Pace};

@@ -37,7 +37,7 @@ const EDITS: &str = "
 ";
 
 /// A workbook of one sheet without cells.
-fn one_sheet(alloc: Global) -> Result<Calc, Fail>
+pub(crate) fn one_sheet(alloc: Global) -> Result<Calc, Fail>
     ensures { IfOk result (λ calc. length calc.shared.names ≡ 1) }
 {
     let files = vec![in alloc; String::from_str(alloc, "a.csv")?]?;
@@ -47,7 +47,7 @@ fn one_sheet(alloc: Global) -> Result<Calc, Fail>
 }
 
 /// A cell of the sheet.
-fn cell(text: &str) -> Option<Addr>
+pub(crate) fn cell(text: &str) -> Option<Addr>
     ensures { IfSome result (λ a. IsOnSheet a × (a.sheet ≡ 0)) }
 {
     let at = Addr::read(0, text)?;
@@ -55,7 +55,7 @@ fn cell(text: &str) -> Option<Addr>
 }
 
 /// What a field reads as into a cell, as in `A1 =B1`.
-fn put(calc: &mut Calc, words: &str) -> Result<(), EditFault>
+pub(crate) fn put(calc: &mut Calc, words: &str) -> Result<(), EditFault>
     requires { length calc.old.shared.names ≡ 1 }
     ensures { calc.new.shared.names ≡ calc.old.shared.names }
 {
@@ -101,7 +101,7 @@ fn copy(calc: &mut Calc, words: &str) -> Result<(), EditFault>
 }
 
 /// What the line asks for.
-fn make(calc: &mut Calc, line: &str) -> Result<(), EditFault>
+pub(crate) fn make(calc: &mut Calc, line: &str) -> Result<(), EditFault>
     requires { length calc.old.shared.names ≡ 1 }
     ensures { calc.new.shared.names ≡ calc.old.shared.names }
 {
@@ -158,7 +158,7 @@ fn edits_let_cells_pend(rt: HostRuntime) -> Result<(), Fail> {
 }
 
 /// Whether no cell is pending, and the support is built.
-fn none_pend(calc: &Calc) -> bool
+pub(crate) fn none_pend(calc: &Calc) -> bool
     ensures { result ≡ true → calc.now.pending ≡ [] }
 {
     match calc.pending() {

@@ -1,4 +1,4 @@
-use Rattle.std.proofs.Common.{◌≡◌, OnOk, IfErr, sym, subst}
+use Rattle.std.proofs.Common.{OnOk, IfErr, sym, subst}
 use Rattle.std.proofs.lemmas.Result.{IfErr-weaker}
 use Rattle.workbook_core.specs.Edits.{IsPutFault, IsCopyFault}
 use Rattle.recalculation.specs.declared.edit.Edit.{Edit}

@@ -1,7 +1,6 @@
 use Rattle.std.proofs.Common.{◌≡◌, true, sym, subst}
 use Rattle.cell_values.specs.Areas.{is_inside}
 use Rattle.demand_spec.specs.Edits.{pending_after}
-use Rattle.recalculation.specs.Edits.{area_of}
 use Rattle.recalculation.specs.Standing.{IsProgressBut}
 use Rattle.recalculation.proofs.Followed.{after_edit, pending_followed, refused_progress, refused_left}
 use Rattle.recalculation.proofs.calc.edit_both.Goals as goal

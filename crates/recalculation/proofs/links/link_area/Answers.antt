@@ -1,4 +1,4 @@
-use Rattle.std.proofs.Common.{drop, ◌+◌, ◌∙◌, ap, sym, arith, length}
+use Rattle.std.proofs.Common.{drop, ◌+◌, arith}
 use Rattle.std.proofs.Math.ListN.{drop_of_length-le}
 use Rattle.cell_values.specs.Areas.{walk}
 use Rattle.recalculation.proofs.Linked.{area_starts, area_goes, area_ends}

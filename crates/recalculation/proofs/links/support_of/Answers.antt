@@ -1,5 +1,4 @@
-use Rattle.std.proofs.Common.{◌≡◌, Some, sym, ◌∙◌}
-use Rattle.workbook_core.specs.Books.{next_in}
+use Rattle.std.proofs.Common.{sym, ◌∙◌}
 use Rattle.recalculation.proofs.Walked.{fewer_behind, walk_goes, walk_ends}
 use Rattle.recalculation.proofs.links.support_of.Goals as goal
 

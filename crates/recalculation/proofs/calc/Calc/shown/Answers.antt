@@ -1,7 +1,7 @@
 use Rattle.std.proofs.Common.{◌≡◌, unwrap_or, ◌∙◌, ap, sym, subst}
 use Rattle.cell_values.specs.declared.values.Shown.{Shown}
 use Rattle.cell_values.specs.Values.{IsShownOf}
-use Rattle.demand_spec.specs.Book.{own, own_of, shown}
+use Rattle.demand_spec.specs.Book.{own, own_of}
 use Rattle.workbook_core.specs.Books.{IsWorkbook}
 use Rattle.recalculation.specs.Calculations.{Calculation}
 use Rattle.recalculation.proofs.Seen.{stored_or_own, shown_text}

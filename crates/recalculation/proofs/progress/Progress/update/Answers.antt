@@ -1,4 +1,4 @@
-use Rattle.std.proofs.Common.{◌≡◌, refl}
+use Rattle.std.proofs.Common.{refl}
 use Rattle.cell_values.specs.Areas.{is_inside}
 use Rattle.recalculation.proofs.Updates.{closed_but, pending_is, progress_updated}
 use Rattle.recalculation.proofs.progress.Progress.update.Goals as goal

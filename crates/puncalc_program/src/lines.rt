@@ -1,0 +1,221 @@
+//! What the lines of a script do, a method for each kind.
+
+ghost use Rattle.std.specs.Prelude.{◌≡◌, ◌<◌, ◌∷◌, ℕ, [], All, length, map, codes, string_bytes, IfOk};
+ghost use Rattle.command_words.specs.Sound.{IsWithin};
+ghost use Rattle.command_words.specs.declared.TheConstants.{MAX_WORKERS};
+ghost use Rattle.cycle_finder.specs.Loops.{loops};
+ghost use Rattle.edit_script.specs.Lines.{IsLineOf};
+ghost use Rattle.edit_script.specs.declared.line.Line.{Line};
+ghost use Rattle.edit_script.specs.Targets.{IsCellOf};
+ghost use Rattle.formula_grammar.specs.Reading.{Reading, IsReading};
+ghost use Rattle.recalculation.specs.Edits.{IsEditOf};
+ghost use Rattle.sheet_csv.specs.Row.{row_text};
+ghost use Rattle.puncalc_program.specs.Cells.{cell_name, cell_shows};
+ghost use Rattle.puncalc_program.specs.Desks.{Changes, Makes, edit_answer, edit_turn, shared_of};
+ghost use Rattle.puncalc_program.specs.Script.{Goes, count_line, loop_row, recalculated, turn};
+ghost use Rattle.puncalc_program.specs.Sheets.{sheet_rows};
+ghost use Rattle.puncalc_program.specs.Writing.{sunk, Writes};
+
+use crate::desk::{Desk, Workers, tell_cells};
+use crate::names::cell_name;
+use crate::refusals::LineRefusal;
+use crate::stop::Stop;
+use crate::writing::put;
+use byte_streams::Sink;
+use cell_values::{Addr, Area, FieldText};
+use cycle_finder::{Loop, cycles, law_loops};
+use edit_script::Line;
+use recalculation::{Edit, Pace};
+use sheet_csv::write_row;
+use std::alloc::{AllocError, Global};
+use std::thread::Threads;
+use workbook_core::EditFault;
+
+impl Desk {
+    /// Does what a line asks for. Answers why it is refused, if it is.
+    #[tactic(auto, unfolding(crate::specs::Script::turn))]
+    pub(crate) fn run_line<R: Threads + Sync, P: Pace, K: Sink>(
+        &mut self,
+        workers: &Workers<'_, R, P>,
+        line: Line,
+        out: &mut K,
+    ) -> Result<Option<LineRefusal>, Stop>
+        requires workers { IsWithin 1 MAX_WORKERS workers.now.count }
+        requires line { IsLineOf self.old.names line }
+        ensures makes { (read : Reading) → IsReading self.old.names read →
+            Makes (turn read self.old.names workers.now.count line self.old.standing) self.old.standing self.new.standing
+            (sunk K.written K.faults K.calls out.old) (sunk K.written K.faults K.calls out.new) result }
+        ensures names { self.new.names ≡ self.old.names }
+    {
+        match line {
+            Line::Nothing => Ok(None),
+            Line::Set(at, field) => self.set(at, &field),
+            Line::Clear(at) => self.change(&Edit::Clear(at)),
+            Line::Copy(from, to) => self.change(&Edit::Copy(from, to)),
+            Line::Show(at) => self.show(workers, at, out),
+            Line::Print(sheet) => self.print(workers, sheet, out),
+            Line::Recalc => self.recalc(workers, out),
+            Line::Cycles => self.list_cycles(workers, out),
+        }
+    }
+
+    /// Puts a field into a cell.
+    #[tactic(auto, unfolding(crate::specs::Script::turn))]
+    fn set(&mut self, at: Addr, field: &FieldText) -> Result<Option<LineRefusal>, Stop>
+        requires { IsCellOf self.old.names at }
+        ensures changes { (read : Reading) → IsReading self.old.names read → (workers : ℕ) →
+            Changes (turn read self.old.names workers (Line.Set at field.now) self.old.standing) self.old.standing self.new.standing result }
+        ensures names { self.new.names ≡ self.old.names }
+    {
+        let raw = self.calc.read_raw(field.as_str())?;
+        self.change(&Edit::Put(at, raw))
+    }
+
+    /// Makes an edit.
+    fn change(&mut self, edit: &Edit) -> Result<Option<LineRefusal>, Stop>
+        requires { IsEditOf (shared_of self.old) edit.now }
+        ensures changes { (read : Reading) → IsReading self.old.names read →
+            Changes (edit_turn read self.old.names edit.now self.old.standing) self.old.standing self.new.standing result }
+        ensures names { self.new.names ≡ self.old.names }
+    {
+        tell_cells(self.calc.book());
+        let made = self.calc.edit(edit);
+        tell_cells(self.calc.book());
+        edit_answer(made)
+    }
+
+    /// Writes what a cell shows.
+    fn show<R: Threads + Sync, P: Pace, K: Sink>(
+        &mut self,
+        workers: &Workers<'_, R, P>,
+        at: Addr,
+        out: &mut K,
+    ) -> Result<Option<LineRefusal>, Stop>
+        requires workers { IsWithin 1 MAX_WORKERS workers.now.count }
+        requires cell { IsCellOf self.old.names at }
+        ensures makes { Makes (Goes (recalculated workers.now.count self.old.standing) (row_text (cell_name self.old.names at ∷ cell_shows self.old.standing.book at ∷ []) ∷ [])) self.old.standing self.new.standing
+            (sunk K.written K.faults K.calls out.old) (sunk K.written K.faults K.calls out.new) result }
+        ensures names { self.new.names ≡ self.old.names }
+    {
+        self.recalculate(workers)?;
+        let row = self.cell_row(at)?;
+        put(out, &row)?;
+        Ok(None)
+    }
+
+    /// A cell's name and what it shows, as a row.
+    fn cell_row(&self, at: Addr) -> Result<Vec<u8>, AllocError>
+        requires pending { self.now.standing.pending ≡ [] }
+        requires cell { IsCellOf self.now.names at }
+        ensures { IfOk result (λ row. row.items ≡ row_text (cell_name self.now.names at ∷ cell_shows self.now.standing.book at ∷ [])) }
+    {
+        let name = cell_name(self.alloc, self.names(), at)?;
+        let text = self.cell_text(at)?;
+        let fields = vec![in self.alloc; name, text]?;
+        write_row(self.alloc, &fields)
+    }
+
+    /// Writes a sheet.
+    fn print<R: Threads + Sync, P: Pace, K: Sink>(
+        &mut self,
+        workers: &Workers<'_, R, P>,
+        sheet: u8,
+        out: &mut K,
+    ) -> Result<Option<LineRefusal>, Stop>
+        requires { IsWithin 1 MAX_WORKERS workers.now.count }
+        ensures makes { Makes (Goes (recalculated workers.now.count self.old.standing) (sheet_rows self.old.standing.book sheet)) self.old.standing self.new.standing
+            (sunk K.written K.faults K.calls out.old) (sunk K.written K.faults K.calls out.new) result }
+        ensures names { self.new.names ≡ self.old.names }
+    {
+        self.recalculate(workers)?;
+        self.write_sheet(sheet, out)?;
+        Ok(None)
+    }
+
+    /// Recalculates, and writes how many cells were pending.
+    fn recalc<R: Threads + Sync, P: Pace, K: Sink>(
+        &mut self,
+        workers: &Workers<'_, R, P>,
+        out: &mut K,
+    ) -> Result<Option<LineRefusal>, Stop>
+        requires { IsWithin 1 MAX_WORKERS workers.now.count }
+        ensures makes { Makes (Goes (recalculated workers.now.count self.old.standing) (count_line (codes "recalculated") (length self.old.standing.pending) ∷ [])) self.old.standing self.new.standing
+            (sunk K.written K.faults K.calls out.old) (sunk K.written K.faults K.calls out.new) result }
+        ensures names { self.new.names ≡ self.old.names }
+    {
+        let count = self.recalculate(workers)?;
+        let line = count_line(self.alloc, "recalculated", count as usize)?;
+        put(out, line.as_bytes())?;
+        Ok(None)
+    }
+
+    /// Writes how many loops there are, and the cells of each.
+    fn list_cycles<R: Threads + Sync, P: Pace, K: Sink>(
+        &mut self,
+        workers: &Workers<'_, R, P>,
+        out: &mut K,
+    ) -> Result<Option<LineRefusal>, Stop>
+        requires { IsWithin 1 MAX_WORKERS workers.now.count }
+        ensures makes { Makes (Goes (recalculated workers.now.count self.old.standing) (count_line (codes "cycles") (length (loops self.old.standing.book)) ∷ map (loop_row self.old.names) (loops self.old.standing.book))) self.old.standing self.new.standing
+            (sunk K.written K.faults K.calls out.old) (sunk K.written K.faults K.calls out.new) result }
+        ensures names { self.new.names ≡ self.old.names }
+    {
+        self.recalculate(workers)?;
+        let found = cycles(self.alloc, self.calc.book(), self.calc.results())?;
+        let line = count_line(self.alloc, "cycles", found.len())?;
+        put(out, line.as_bytes())?;
+        self.write_loops(&found, out)?;
+        Ok(None)
+    }
+
+    /// Writes the cells of each loop in a row.
+    fn write_loops<K: Sink>(&self, found: &[Loop], out: &mut K) -> Result<(), Stop>
+        requires { found.now ≡ loops self.now.standing.book }
+        ensures { Writes (map (loop_row self.now.names) found.now) (sunk K.written K.faults K.calls out.old) (sunk K.written K.faults K.calls out.new) result }
+    {
+        law_loops();
+        tell_cells(self.calc.book());
+        for cells in found {
+            let row = self.loop_row(cells)?;
+            put(out, &row)?;
+        }
+        Ok(())
+    }
+
+    /// The cells of a loop, as a row.
+    fn loop_row(&self, cells: &Loop) -> Result<Vec<u8>, AllocError>
+        requires some { 0 < length cells.now }
+        requires of_sheets { All (IsCellOf self.now.names) cells.now }
+        ensures { IfOk result (λ row. row.items ≡ loop_row self.now.names cells.now) }
+    {
+        let mut fields = Vec::new(self.alloc);
+        let cells = cells.cells();
+        for at in cells {
+            fields.push(cell_name(self.alloc, self.names(), *at)?)?;
+        }
+        write_row(self.alloc, &fields)
+    }
+}
+
+/// What an edit came to, as the answer of a line.
+fn edit_answer(made: Result<(), EditFault>) -> Result<Option<LineRefusal>, Stop>
+    ensures { result ≡ edit_answer made }
+{
+    match made {
+        Ok(()) => Ok(None),
+        Err(EditFault::BadFormula { place, kind }) => Ok(Some(LineRefusal::BadFormula(
+            place, kind,
+        ))),
+        Err(EditFault::TooManyCells) => Ok(Some(LineRefusal::TooManyCells)),
+        Err(EditFault::OutOfMemory) => Err(Stop::Memory),
+    }
+}
+
+/// A word and a count, as a line.
+fn count_line(alloc: Global, word: &str, count: usize) -> Result<String, AllocError>
+    ensures { IfOk result (λ line. string_bytes line ≡ count_line word.now count) }
+{
+    let mut line = String::from_str(alloc, word)?;
+    write!(line, " {count}\n")?;
+    Ok(line)
+}

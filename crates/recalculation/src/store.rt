@@ -1,0 +1,49 @@
+//! What is stored for cells.
+
+ghost use Rattle.std.specs.Prelude.{◌≡◌, cond, None, Some, map, OnOk, OnErr};
+ghost use Rattle.cell_values.specs.declared.address.Addr.{Addr as Cell};
+ghost use Rattle.cell_values.specs.Addresses.{same_addr};
+ghost use Rattle.cell_values.specs.Order.{entry_at};
+ghost use Rattle.demand_spec.specs.Book.{shown};
+ghost use Rattle.recalculation.specs.Written.{HasRoomFor, HasResultsOf, OthersStay};
+
+use cell_values::{Addr, Shown};
+use demand_spec::Results;
+use std::alloc::AllocError;
+use workbook_core::Workbook;
+
+// Stores a result. Where something stood there, no memory is taken.
+fn store(stored: &mut Results, at: Addr, shown: Shown) -> Result<(), AllocError>
+    ensures ok { OnOk result ((q : Cell) → entry_at stored.new.entries q ≡ cond (same_addr at q) (Some shown) (entry_at stored.old.entries q)) }
+    ensures absent { OnErr result (entry_at stored.old.entries at ≡ None) }
+    ensures err { OnErr result (stored.new.entries ≡ stored.old.entries) }
+{
+    stored.insert(at, shown)?;
+    Ok(())
+}
+
+/// Stores a mark for each of the cells, so that their results then take no memory.
+pub(crate) fn reserve(stored: &mut Results, cells: &[Addr]) -> Result<(), AllocError>
+    ensures room { OnOk result (HasRoomFor cells.now stored.new.entries) }
+    ensures others { OthersStay cells.now stored.old.entries stored.new.entries }
+{
+    for i in 0..cells.len() {
+        store(stored, cells[i], Shown::ToCycle)?;
+    }
+    Ok(())
+}
+
+/// Stores the results of the cells, one for each in their order.
+pub(crate) fn store_all(book: &Workbook, stored: &mut Results, cells: &[Addr], results: &[Shown])
+    requires room { HasRoomFor cells.now stored.old.entries }
+    requires results { results.now ≡ map (shown book.now.book) cells.now }
+    ensures results { HasResultsOf book.now.book cells.now stored.new.entries }
+    ensures others { OthersStay cells.now stored.old.entries stored.new.entries }
+{
+    let _book = book;
+    for i in 0..cells.len() {
+        let Ok(()) = store(stored, cells[i], results[i]) else {
+            unreachable!()
+        };
+    }
+}
