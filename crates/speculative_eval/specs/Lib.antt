@@ -3,3 +3,4 @@ pub mod Performs
 pub mod Machines
 pub mod Workers
 pub mod Steps
+pub mod TestRound

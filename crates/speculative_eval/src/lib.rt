@@ -12,6 +12,8 @@ mod perform;
 mod read_words;
 mod step;
 mod steps;
+#[cfg(test)]
+mod tests;
 mod worker;
 
 pub use step::Step;
