@@ -1,6 +1,6 @@
 //! Recalculations of small workbooks with many workers, in threads and in a given order.
 
-ghost use Rattle.std.specs.Prelude.{◌≡◌, ◌≤◌, [], length, IfOk, OnOk};
+ghost use Rattle.std.specs.Prelude.{◌≡◌, ◌<◌, ◌≤◌, [], length, All, IfOk, OnOk};
 
 use super::*;
 use crate::plain::plain_of;
@@ -12,7 +12,7 @@ use std::marker::Sync;
 use std::process::Abort;
 use std::sync::atomic::{AtomicU64, Ordering};
 use std::test::Fail;
-use std::thread::Threads;
+use std::thread::{Threads, yield_now};
 
 const CHAIN: &str = "
     =A2+1 shows Val(Number(7))
@@ -84,6 +84,19 @@ fn calc_of(rt: &impl Abort, alloc: Global, lines: &str) -> Result<Calc, Fail>
     Ok(calc)
 }
 
+/// A cell of the line is told as it says.
+fn is_told(
+    rt: &impl Abort,
+    alloc: Global,
+    shown: Shown,
+    want: &str,
+    line: &str,
+) -> Result<(), Fail> {
+    let told = format!(in alloc; "{shown:?}")?;
+    assert_eq!(rt; told.as_str(), want, "{line}");
+    Ok(())
+}
+
 /// Each cell shows what stands behind `shows`.
 fn shows_all(rt: &impl Abort, alloc: Global, calc: &Calc, lines: &str) -> Result<(), Fail>
     requires { calc.now.pending ≡ [] }
@@ -93,7 +106,7 @@ fn shows_all(rt: &impl Abort, alloc: Global, calc: &Calc, lines: &str) -> Result
         if let Some((_, want)) = line.trim_start().split_once(" shows ") {
             row = row.saturating_add(1);
             let shown = calc.shown(at(row));
-            assert_eq!(rt; format!(in alloc; "{shown:?}")?.as_str(), want, "{line}");
+            is_told(rt, alloc, shown, want, line)?;
         }
     }
     Ok(())
@@ -107,13 +120,26 @@ fn shows_as_defined(rt: &impl Abort, alloc: Global, calc: &Calc) -> Result<u32, 
     let plain = plain_of(rt, alloc, book)?;
     let mut count: u32 = 0;
     for (at, shows) in &slow_shown(alloc, &plain, book.texts())? {
-        assert_eq!(rt; calc.shown(*at), *shows, "{at:?}");
+        let shown = calc.shown(*at);
+        assert_eq!(rt; shown, *shows, "{at:?}");
         count = count.saturating_add(1);
     }
     Ok(count)
 }
 
-/// A recalculation, with a number for each worker, or none where nothing was pending.
+/// The summary has a number for each worker, or none where nothing was pending.
+fn tells_of(rt: &impl Abort, summary: &Summary, workers: u8) {
+    let count = if summary.pending == 0 {
+        0
+    } else {
+        workers as usize
+    };
+    assert_eq!(rt; summary.claimed.numbers().len(), count);
+    assert_eq!(rt; summary.published.numbers().len(), count);
+    assert_eq!(rt; summary.outcome.is_some(), count > 0);
+}
+
+/// A recalculation. Gives how many cells were pending.
 fn computed<R: Abort + Threads + Sync, P: Pace>(
     rt: &R,
     calc: &mut Calc,
@@ -125,15 +151,28 @@ fn computed<R: Abort + Threads + Sync, P: Pace>(
     ensures book { calc.new.shared ≡ calc.old.shared }
 {
     let summary = calc.recalculate(rt, workers, pace)?;
-    let count = if summary.pending == 0 {
-        0
-    } else {
-        workers as usize
-    };
-    assert_eq!(rt; summary.claimed.numbers().len(), count);
-    assert_eq!(rt; summary.published.numbers().len(), count);
-    assert_eq!(rt; summary.outcome.is_some(), count > 0);
+    tells_of(rt, &summary, workers);
     Ok(summary.pending)
+}
+
+/// The workbook of these lines, computed with so many workers. So many cells were pending.
+fn computed_calc<R: Abort + Threads + Sync, P: Pace>(
+    rt: &R,
+    alloc: Global,
+    lines: &str,
+    workers: u8,
+    pace: &P,
+    pending: u32,
+) -> Result<Calc, Fail>
+    requires { (1 ≤ workers) × (workers ≤ 64) }
+    ensures names { IfOk result (λ calc. length calc.shared.names ≡ 1) }
+    ensures done { IfOk result (λ calc. calc.pending ≡ []) }
+{
+    let mut calc = calc_of(rt, alloc, lines)?;
+    let found = computed(rt, &mut calc, workers, pace)?;
+    assert_eq!(rt; found, pending);
+    shows_all(rt, alloc, &calc, lines)?;
+    Ok(calc)
 }
 
 /// Computes the workbook of these lines with so many workers, and once more, when nothing is pending.
@@ -146,11 +185,11 @@ fn computes<R: Abort + Threads + Sync>(
 ) -> Result<(), Fail>
     requires { (1 ≤ workers) × (workers ≤ 64) }
 {
-    let mut calc = calc_of(rt, alloc, lines)?;
-    assert_eq!(rt; computed(rt, &mut calc, workers, &NoPace)?, pending);
-    shows_all(rt, alloc, &calc, lines)?;
-    assert_eq!(rt; shows_as_defined(rt, alloc, &calc)?, pending);
-    assert_eq!(rt; computed(rt, &mut calc, workers, &NoPace)?, 0);
+    let mut calc = computed_calc(rt, alloc, lines, workers, &NoPace, pending)?;
+    let formulas = shows_as_defined(rt, alloc, &calc)?;
+    assert_eq!(rt; formulas, pending);
+    let found = computed(rt, &mut calc, workers, &NoPace)?;
+    assert_eq!(rt; found, 0);
     shows_all(rt, alloc, &calc, lines)
 }
 
@@ -176,22 +215,240 @@ impl Pace for Steps {
     }
 }
 
-// Of thousands of formula cells one alone is asked after what it reads has changed: it is looked at, claimed, and
-// published with a record of a tag and the two value words of a number.
-#[test]
-fn an_edit_of_many_cells_asks_what_reads_it(rt: HostRuntime) -> Result<(), Fail> {
-    let mut calc = one_sheet(rt.alloc())?;
-    make(&mut calc, "set A1 =B1")?;
-    make(&mut calc, "copy A1 A2:A3000")?;
-    assert_eq!(rt; computed(&rt, &mut calc, 3, &NoPace)?, 3000);
-    make(&mut calc, "set B1500 7")?;
+/// How many steps a recalculation by one worker makes after an edit that leaves one cell pending.
+fn steps_after<R: Abort + Threads + Sync>(rt: &R, calc: &mut Calc, line: &str) -> Result<u64, Fail>
+    requires { length calc.old.shared.names ≡ 1 }
+    ensures { OnOk result (calc.new.pending ≡ []) }
+{
+    make(calc, line)?;
     let steps = Steps {
         count: AtomicU64::new(0),
     };
-    assert_eq!(rt; computed(&rt, &mut calc, 1, &steps)?, 1);
-    assert_eq!(rt; steps.count.load(Ordering::SeqCst), 7);
-    assert_eq!(rt; calc.shown(at(1500)), Shown::Val(Value::Number(7)));
+    let pending = computed(rt, calc, 1, &steps)?;
+    assert_eq!(rt; pending, 1);
+    Ok(steps.count.load(Ordering::SeqCst))
+}
+
+const LOOP_AND_VALUE: &str = "
+    =A1 shows Cycle(1)
+    =1 shows Val(Number(1))
+";
+
+const LOOP_AND_READER: &str = "
+    =A1 shows Cycle(1)
+    =A1 shows ToCycle
+";
+
+// Of two formula cells one alone is pending the second time: it is looked at, claimed, and published with a record of
+// a tag and one value word.
+#[test]
+fn only_what_is_pending_is_computed(rt: HostRuntime) -> Result<(), Fail> {
+    let alloc = rt.alloc();
+    let mut calc = computed_calc(&rt, alloc, LOOP_AND_VALUE, 1, &NoPace, 2)?;
+    let steps = steps_after(&rt, &mut calc, "set A2 =A1")?;
+    assert_eq!(rt; steps, 6);
+    shows_all(&rt, alloc, &calc, LOOP_AND_READER)
+}
+
+/// A workbook of 3,000 cells, each of which shows the cell beside it.
+fn filled(alloc: Global) -> Result<Calc, Fail>
+    ensures { IfOk result (λ calc. length calc.shared.names ≡ 1) }
+{
+    let mut calc = one_sheet(alloc)?;
+    make(&mut calc, "set A1 =B1")?;
+    make(&mut calc, "copy A1 A2:A3000")?;
+    Ok(calc)
+}
+
+// Of thousands of formula cells one alone is computed after what it reads has changed; its record has a tag and the two
+// value words of a number.
+#[test]
+fn an_edit_of_many_cells_asks_what_reads_it(rt: HostRuntime) -> Result<(), Fail> {
+    let mut calc = filled(rt.alloc())?;
+    let pending = computed(&rt, &mut calc, 3, &NoPace)?;
+    assert_eq!(rt; pending, 3000);
+    let steps = steps_after(&rt, &mut calc, "set B1500 7")?;
+    assert_eq!(rt; steps, 7);
+    let shown = calc.shown(at(1500));
+    assert_eq!(rt; shown, Shown::Val(Value::Number(7)));
     Ok(())
+}
+
+/// How often a worker looks for the other one.
+const LOOKS: u32 = 1_000_000;
+
+/// Holds each of two workers before its first step until the other one has come to its first step, and notes where one
+/// looked for the other in vain.
+#[derive(Drop)]
+struct Gate {
+    zero: AtomicU64,
+    one: AtomicU64,
+    late: AtomicU64,
+}
+
+impl Gate {
+    /// No worker has come yet.
+    fn new() -> Gate {
+        Gate {
+            zero: AtomicU64::new(0),
+            one: AtomicU64::new(0),
+            late: AtomicU64::new(0),
+        }
+    }
+
+    fn hold(&self, own: &AtomicU64, other: &AtomicU64) {
+        if own.swap(1, Ordering::SeqCst) == 1 {
+            return;
+        }
+        for _ in 0..LOOKS {
+            if other.load(Ordering::SeqCst) == 1 {
+                return;
+            }
+            yield_now();
+        }
+        self.late.store(1, Ordering::SeqCst);
+    }
+
+    /// Both workers have come, and neither looked for the other in vain.
+    fn saw_both(&self, rt: &impl Abort) {
+        let zero = self.zero.load(Ordering::SeqCst);
+        let one = self.one.load(Ordering::SeqCst);
+        let late = self.late.load(Ordering::SeqCst);
+        assert!(rt; zero == 1 && one == 1 && late == 0);
+    }
+}
+
+impl Pace for Gate {
+    fn before(&self, worker: u8, _kind: Kind) {
+        if worker == 0 {
+            self.hold(&self.zero, &self.one);
+        } else {
+            self.hold(&self.one, &self.zero);
+        }
+    }
+}
+
+const TWO_VALUES: &str = "
+    =1 shows Val(Number(1))
+    =2 shows Val(Number(2))
+";
+
+#[test]
+fn two_workers_meet(rt: HostRuntime) -> Result<(), Fail> {
+    let gate = Gate::new();
+    computed_calc(&rt, rt.alloc(), TWO_VALUES, 2, &gate, 2)?;
+    gate.saw_both(&rt);
+    Ok(())
+}
+
+const TWO_CELLS: &str = "
+    =A2 shows Cycle(2)
+    =A1 shows Cycle(2)
+";
+
+// Worker 1 runs to its end, while worker 0 has stopped after its claim.
+const OTHER_FIRST: &str = "
+    0 Look { cell: 0, seen: Stale }
+    0 Claim { cell: 0, answer: Won }
+    1 Look { cell: 1, seen: Stale }
+    1 Claim { cell: 1, answer: Won }
+    1 Look { cell: 0, seen: Claimed(0) }
+    1 TakeRecord { rec: 0 }
+    1 StoreValue { rec: 0, k: 0, word: 2 }
+    1 StoreTag { rec: 0, word: 6 }
+    1 Publish { cell: 0, rec: 0, answer: Won }
+    1 TakeRecord { rec: 1 }
+    1 StoreValue { rec: 1, k: 0, word: 2 }
+    1 StoreTag { rec: 1, word: 6 }
+    1 Publish { cell: 1, rec: 1, answer: Won }
+";
+
+// And then worker 0: a mark of a cycle that another worker published is not believed, so the cell is walked again.
+const AND_THEN: &str = "
+    0 Look { cell: 1, seen: Done { publisher: 1, claimer: 1, rec: 1 } }
+    0 LoadTag { rec: 1, word: 6 }
+    0 TakeRecord { rec: 2 }
+    0 StoreValue { rec: 2, k: 0, word: 2 }
+    0 StoreTag { rec: 2, word: 6 }
+    0 Publish { cell: 0, rec: 2, answer: Lost { publisher: 1, claimer: 0, rec: 0 } }
+";
+
+/// The order whose turns are these digits, 0 or 1.
+fn order_of(alloc: Global, digits: &str) -> Result<Vec<u8>, Fail>
+    ensures { IfOk result (λ order. All (λ w. w < 2) order.items) }
+{
+    let mut order = Vec::new(alloc);
+    for digit in digits.as_bytes() {
+        order.push(u8::from(*digit == b'1'))?;
+    }
+    Ok(order)
+}
+
+/// The steps, a line each, behind an empty one.
+fn told(alloc: Global, trace: &[Traced]) -> Result<String, Fail> {
+    let mut told = String::from_str(alloc, "\n")?;
+    for step in trace {
+        let worker = step.worker;
+        let event = step.event;
+        told.push_str(format!(in alloc; "    {worker} {event:?}\n")?.as_str())?;
+    }
+    Ok(told)
+}
+
+/// A recalculation by two workers in this order. Gives its steps.
+fn computed_in_order(
+    alloc: Global,
+    calc: &mut Calc,
+    order: &[u8],
+    stopped: &[u8],
+) -> Result<Vec<Traced>, Fail>
+    requires order { All (λ w. w < 2) order.now }
+    requires stopped { length stopped.now < 2 }
+    ensures { OnOk result (calc.new.pending ≡ []) }
+{
+    let mut trace = Vec::new(alloc);
+    calc.recalculate_in_order(2, order, stopped, &mut trace)?;
+    Ok(trace)
+}
+
+/// Two workers compute the two cells in this order, and the cells show what they should. Gives the steps.
+fn steps_of(rt: &impl Abort, alloc: Global, digits: &str, stopped: &[u8]) -> Result<String, Fail>
+    requires { length stopped.now < 2 }
+{
+    let order = order_of(alloc, digits)?;
+    let mut calc = calc_of(rt, alloc, TWO_CELLS)?;
+    let trace = computed_in_order(alloc, &mut calc, &order, stopped)?;
+    shows_all(rt, alloc, &calc, TWO_CELLS)?;
+    told(alloc, &trace)
+}
+
+/// The run has these steps, those of the second text behind those of the first.
+fn has_steps(
+    rt: &impl Abort,
+    alloc: Global,
+    digits: &str,
+    stopped: &[u8],
+    first: &str,
+    second: &str,
+) -> Result<(), Fail>
+    requires { length stopped.now < 2 }
+{
+    let steps = steps_of(rt, alloc, digits, stopped)?;
+    let mut want = String::from_str(alloc, first)?;
+    want.push_str(second.trim_start_matches('\n'))?;
+    assert_eq!(rt; steps.as_str(), want.as_str());
+    Ok(())
+}
+
+#[test]
+fn steps_in_a_given_order(rt: HostRuntime) -> Result<(), Fail> {
+    has_steps(&rt, rt.alloc(), "0011111111111", &[], OTHER_FIRST, AND_THEN)
+}
+
+// A stopped worker makes the steps of its turns alone.
+#[test]
+fn a_worker_stops(rt: HostRuntime) -> Result<(), Fail> {
+    has_steps(&rt, rt.alloc(), "00", &[0], OTHER_FIRST, "")
 }
 
 /// Edits of a workbook with loops.
@@ -248,6 +505,40 @@ fn edit_of(rt: &impl Abort, calc: &mut Calc, number: u64)
     make(calc, line_of(RANDOM, number)).expect(rt, "an edit");
 }
 
+/// Three edits, by the numbers behind this one. Gives the last of them.
+fn three_edits(rt: &impl Abort, calc: &mut Calc, seed: u64) -> u64
+    requires { length calc.old.shared.names ≡ 1 }
+    ensures { length calc.new.shared.names ≡ 1 }
+{
+    let mut seed = seed;
+    for _ in 0..3u32 {
+        seed = shuffled(seed);
+        edit_of(rt, calc, (seed >> 40) % 24 + 1);
+    }
+    seed
+}
+
+/// From 1 to 4 workers, by a number.
+fn workers_of(seed: u64) -> u8
+    ensures { (1 ≤ result) × (result ≤ 64) }
+{
+    ((seed >> 50) % 4) as u8 + 1
+}
+
+/// A recalculation, after which each formula cell shows what the workbook means. Gives how many there are.
+fn recomputed<R: Abort + Threads + Sync>(
+    rt: &R,
+    alloc: Global,
+    calc: &mut Calc,
+    workers: u8,
+) -> Result<u32, Fail>
+    requires { (1 ≤ workers) × (workers ≤ 64) }
+    ensures { calc.new.shared ≡ calc.old.shared }
+{
+    computed(rt, calc, workers, &NoPace)?;
+    shows_as_defined(rt, alloc, calc)
+}
+
 // After edits here and there each cell shows what the workbook means as it is then.
 #[test]
 fn edits_and_recalculations(rt: HostRuntime) -> Result<(), Fail> {
@@ -255,12 +546,9 @@ fn edits_and_recalculations(rt: HostRuntime) -> Result<(), Fail> {
     let mut seed = 7;
     let mut cells: u32 = 0;
     for _ in 0..40u32 {
-        for _ in 0..3u32 {
-            seed = shuffled(seed);
-            edit_of(&rt, &mut calc, (seed >> 40) % 24 + 1);
-        }
-        computed(&rt, &mut calc, ((seed >> 50) % 4) as u8 + 1, &NoPace)?;
-        cells = cells.saturating_add(shows_as_defined(&rt, rt.alloc(), &calc)?);
+        seed = three_edits(&rt, &mut calc, seed);
+        let formulas = recomputed(&rt, rt.alloc(), &mut calc, workers_of(seed))?;
+        cells = cells.saturating_add(formulas);
     }
     assert!(rt; cells > 100);
     Ok(())

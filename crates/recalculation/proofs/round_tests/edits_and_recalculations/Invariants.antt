@@ -1,5 +1,5 @@
 use Rattle.std.proofs.Common.{◌≡◌, length}
 use Rattle.recalculation.proofs.round_tests.edits_and_recalculations.Given as goal
 
-abbrev pub invariant-loop-i : goal.invariant-loop-i
-invariant-loop-i l = length l.calc.shared.names ≡ 1
+abbrev pub invariant-loop : goal.invariant-loop
+invariant-loop g l = length l.calc.shared.names ≡ 1
