@@ -1,6 +1,6 @@
 -- How the parts of a run end.
-use Rattle.std.proofs.Common.{◌≡◌, ◌≢◌, ℕ, ◌+◌, ◌<◌, ◌≤◌, ◌⊎◌, inl, inr, List, [], ◌∷◌, map, length, cond, Bool, true, false, Option, Some, None, Ok, codes, refl, sym, subst, ap, ◌∙◌, arith}
-use Rattle.std.specs.Prelude.{Result, Err, IfSome, IfOk, IsSomeAnd, String, string_bytes}
+use Rattle.std.proofs.Common.{◌≡◌, ℕ, ◌<◌, ◌≤◌, ◌⊎◌, inl, inr, List, [], ◌∷◌, map, length, cond, Option, Some, None, Ok, codes, refl, sym, subst, ap, ◌∙◌, arith}
+use Rattle.std.specs.Prelude.{Result, Err, IfSome, IfOk, String, string_bytes}
 use Rattle.std.specs.Global.{Global}
 use Rattle.std.proofs.lemmas.Bool.{le-ltb, lt-ltb}
 use Rattle.byte_streams.specs.Faults.{HasRisen}
@@ -13,6 +13,7 @@ use Rattle.command_words.specs.Asking.{asked, edit}
 use Rattle.demand_spec.specs.Book.{Book}
 use Rattle.formula_grammar.specs.Reading.{Reading, IsReadable, IsReading}
 use Rattle.sheet_loading.specs.declared.TheConstants.{SHEET_BYTES}
+use Rattle.sheet_loading.specs.declared.faults.SheetRefusal.{SheetRefusal}
 use Rattle.sheet_loading.specs.Contents.{Names}
 use Rattle.sheet_loading.specs.Sheets.{no_cells, sheet_added}
 use Rattle.puncalc_program.specs.declared.script.TheConstants.{SCRIPT_BYTES}
@@ -20,15 +21,15 @@ use Rattle.workbook_core.specs.Books.{SharedBook}
 use Rattle.puncalc_program.specs.declared.files.Loaded.{Loaded}
 use Rattle.puncalc_program.specs.declared.stop.Stop.{Stop}
 use Rattle.puncalc_program.specs.Desks.{KeptIs, Runs}
-use Rattle.puncalc_program.specs.Files.{Load, Whole, Refused, Lacking, files_loaded, IsLoadOf, LacksFiles, StopsReading}
+use Rattle.puncalc_program.specs.Files.{Load, Whole, Refused, Lacking, files_loaded, IsLoadOf, IsSheetOf, LacksFiles, StopsReading}
 use Rattle.puncalc_program.specs.Outputs.{Output, refusal}
-use Rattle.puncalc_program.specs.Output.{AreReadings, Readings, edit_output, on_load, output, request_output, on_names, script_output, show_output, shown_or_refused, the_names}
+use Rattle.puncalc_program.specs.Output.{AreReadings, Readings, demo_output, edit_output, on_load, only_sheet, output, request_output, on_names, script_output, the_names, with_sheet}
 use Rattle.puncalc_program.specs.Refusals.{name_refused, refusal_line}
-use Rattle.puncalc_program.specs.Run.{Answers, AnswersAll, CouldNotRead, Ends, IsFinal, Lacks, RunEnds, StopsFor}
+use Rattle.puncalc_program.specs.Run.{Answers, AnswersAll, CouldNotRead, Ends, IsFinal, Lacks, NeverReads, ReadsSheet, RunEnds, StopsFor, sheet_refusal}
 use Rattle.puncalc_program.specs.Script.{Standing, lines_of, opened, script_from}
-use Rattle.puncalc_program.specs.Writing.{Sunk, WritesAll, WritesPart, StopsWriting, Writes, Stops, Unread}
+use Rattle.puncalc_program.specs.Writing.{Sunk, WritesAll, WritesPart, StopsWriting, Writes, Unread}
 use Rattle.puncalc_program.proofs.Loading.{too_long}
-use Rattle.puncalc_program.proofs.Written.{no_part, whole_part}
+use Rattle.puncalc_program.proofs.Written.{no_part, part_more, whole_part}
 
 -- a part that only writes stopped
 
@@ -37,13 +38,13 @@ part_answers due a b kept Stop.Read h k = absurd k
 part_answers due a b kept Stop.Write h k = h
 part_answers due a b kept Stop.Memory h k = h
 
-pub writing_stops : (Cause : Type 0) (a b : Sunk) (stop : Stop) → StopsWriting stop a b → StopsFor Cause a b (Err stop)
+pub writing_stops : (Cause : Type 0) (a b : Sunk) (stop : Stop) → StopsWriting stop a b → StopsFor {A = ℕ} Cause a b (Err stop)
 writing_stops Cause a b Stop.Read h = absurd h
 writing_stops Cause a b Stop.Write h = h
 writing_stops Cause a b Stop.Memory h = tt
 
-pub stops_for : (Cause Other : Type 0) (a b : Sunk) (r : Result ℕ Stop) → (Cause → Other) → StopsFor Cause a b r → StopsFor Other a b r
-stops_for Cause Other a b (Ok status) f h = tt
+pub stops_for : {A : Type 0} (Cause Other : Type 0) (a b : Sunk) (r : Result A Stop) → (Cause → Other) → StopsFor Cause a b r → StopsFor Other a b r
+stops_for Cause Other a b (Ok _) f h = tt
 stops_for Cause Other a b (Err Stop.Read) f h = f h
 stops_for Cause Other a b (Err Stop.Write) f h = h
 stops_for Cause Other a b (Err Stop.Memory) f h = tt
@@ -58,25 +59,144 @@ pub refused_stops : (Cause : Type 0) (pieces : List (List ℕ)) (a b : Sunk) (r 
 refused_stops Cause pieces a b (Ok s) w = tt
 refused_stops Cause pieces a b (Err stop) w = writing_stops Cause a b stop w.1
 
--- ---- show
+-- ---- the sheet of the input
 
-abbrev pub Shows : ℕ → Sunk → Sunk → Option OutcomeSeen → Result ℕ Stop → List ℕ → Type 0
-Shows workers a b kept r bytes = (read : Readings) → AreReadings read → Answers (show_output read workers bytes) a b kept r
+-- what is read of the input's bytes
+abbrev pub Reads : Sunk → Sunk → Result (Option SharedBook) Stop → List ℕ → Type 0
+Reads a b r bytes = (read : Readings) → AreReadings read → ReadsSheet (only_sheet read bytes) a b r
 
-pub shown_told : (told : Option (List ℕ)) (bytes given : List ℕ) (workers : ℕ) (a b : Sunk) (kept : Option OutcomeSeen) (r : Result ℕ Stop) → IfSome told (λ left. bytes ≡ left) → given ≡ bytes →
-    Shows workers a b kept r given → IfSome told (Shows workers a b kept r)
-shown_told None bytes given workers a b kept r h e k = tt
-shown_told (Some left) bytes given workers a b kept r h e k = subst (Shows workers a b kept r) (e ∙ h) k
+-- what is made of their sheet
+abbrev pub SheetAnswers : (Book → Output) → Sunk → Sunk → Option OutcomeSeen → Result ℕ Stop → List ℕ → Type 0
+SheetAnswers next a b kept r bytes = (read : Readings) → AreReadings read → Answers (with_sheet next (only_sheet read bytes)) a b kept r
 
-pub shown_unread : (told : Option (List ℕ)) (workers : ℕ) (a b : Sunk) (kept : Option OutcomeSeen) (fault : ReadFault) (r : Result ℕ Stop) → Explains fault SHEET_BYTES told →
-    Unread 3 (refusal_line (codes "Sheet1: S4")) a b fault r → kept ≡ None → IfSome told (Shows workers a b kept r)
-shown_unread None workers a b kept fault r h w k = tt
-shown_unread (Some left) workers a b kept ReadFault.TooLong r h w k = λ read right.
-    subst (λ d. Answers (shown_or_refused workers d) a b kept r) (sym (too_long (read the_names) the_names 0 SHEET_BYTES no_cells left h)) (refused_answers 3 (codes "Sheet1: S4") a b kept r w.0 w.1 k)
-shown_unread (Some left) workers a b kept ReadFault.Failed r h w k = λ read right.
-    subst (λ z. Answers (show_output read workers left) a b kept z) (sym w.0) w.1
-shown_unread (Some left) workers a b kept ReadFault.OutOfMemory r h w k = λ read right.
-    subst (λ z. Answers (show_output read workers left) a b kept z) (sym w.0) (subst (λ s. WritesPart (show_output read workers left).pieces a s) (sym w.1) (no_part (show_output read workers left).pieces a))
+failed_read : (due : Result Book SheetRefusal) (a b : Sunk) → b ≡ a → ReadsSheet due a b (Err Stop.Read)
+failed_read (Ok d) a b e = e
+failed_read (Err why) a b e = e
+
+part_read : (due : Result Book SheetRefusal) (a b : Sunk) (stop : Stop) → WritesPart (sheet_refusal due) a b → StopsWriting stop a b → ReadsSheet due a b (Err stop)
+part_read (Ok d) a b Stop.Read h k = absurd k
+part_read (Ok d) a b Stop.Write h k = h
+part_read (Ok d) a b Stop.Memory h k = h
+part_read (Err why) a b Stop.Read h k = absurd k
+part_read (Err why) a b Stop.Write h k = h
+part_read (Err why) a b Stop.Memory h k = h
+
+-- there was no memory before anything was written
+pub none_read : (due : Result Book SheetRefusal) (s : Sunk) → ReadsSheet due s s (Err Stop.Memory)
+none_read due s = part_read due s s Stop.Memory (no_part (sheet_refusal due) s) tt
+
+-- what was loaded, where there is one name
+pub only_loaded : (names : Names) (bytes : List ℕ) (l : Loaded) → names ≡ the_names →
+    ((read : Reading) → IsReading names read → IsSheetOf names (sheet_added read names 0 SHEET_BYTES no_cells bytes) l) → (read : Readings) → AreReadings read → IsSheetOf the_names (only_sheet read bytes) l
+only_loaded names bytes l is h read right =
+    subst (λ ns. (read : Reading) → IsReading ns read → IsSheetOf ns (sheet_added read ns 0 SHEET_BYTES no_cells bytes) l) is h (read the_names) (right the_names)
+
+-- the sheet was loaded
+pub loaded_read : (due : Result Book SheetRefusal) (w : SharedBook) (s : Sunk) → IsSheetOf the_names due (Loaded.Whole w) → ReadsSheet due s s (Ok (Some w))
+loaded_read (Ok d) w s h = (h.0, refl)
+loaded_read (Err why) w s h = absurd h
+
+-- its refusal was written, or a part of it
+pub refusal_read : (due : Result Book SheetRefusal) (what : String Global) (text : List ℕ) (a b : Sunk) → IsSheetOf the_names due (Loaded.Refused what) → text ≡ string_bytes what →
+    WritesAll (refusal_line text ∷ []) a b → ReadsSheet due a b (Ok None)
+refusal_read (Ok d) what text a b h e w = absurd h
+refusal_read (Err why) what text a b h e w = subst (λ t. WritesAll (refusal_line t ∷ []) a b) (e ∙ h) w
+
+pub refusal_cut : (due : Result Book SheetRefusal) (what : String Global) (text : List ℕ) (a b : Sunk) (stop : Stop) → IsSheetOf the_names due (Loaded.Refused what) → text ≡ string_bytes what →
+    WritesPart (refusal_line text ∷ []) a b → StopsWriting stop a b → ReadsSheet due a b (Err stop)
+refusal_cut (Ok d) what text a b stop h e w k = absurd h
+refusal_cut (Err why) what text a b stop h e w k = part_read (Err why) a b stop (subst (λ t. WritesPart (refusal_line t ∷ []) a b) (e ∙ h) w) k
+
+-- the same of all bytes that are told to be left
+pub sheet_told : (told : Option (List ℕ)) (bytes given : List ℕ) (a b : Sunk) (r : Result (Option SharedBook) Stop) → IfSome told (λ left. bytes ≡ left) → given ≡ bytes → Reads a b r given → IfSome told (Reads a b r)
+sheet_told None bytes given a b r h e k = tt
+sheet_told (Some left) bytes given a b r h e k = subst (Reads a b r) (e ∙ h) k
+
+not_stopped : (status : ℕ) (stop : Stop) (r : Result ℕ Stop) → r ≡ Ok status → r ≡ Err stop → ⊥
+not_stopped status stop r p q = cc
+
+one_stop : (stop other : Stop) (r : Result ℕ Stop) → r ≡ Err stop → r ≡ Err other → other ≡ stop
+one_stop stop other r p q = cc
+
+-- the input has too many bytes: the refusal was written, or a part of it; or it could not be read
+
+pub sheet_unread : (told : Option (List ℕ)) (a b : Sunk) (fault : ReadFault) (status : ℕ) → Explains fault SHEET_BYTES told → Unread 3 (refusal_line (codes "Sheet1: S4")) a b fault (Ok status) → IfSome told (Reads a b (Ok None))
+sheet_unread None a b fault status h w = tt
+sheet_unread (Some left) a b ReadFault.TooLong status h w = λ read right.
+    subst (λ due. ReadsSheet due a b (Ok None)) (sym (too_long (read the_names) the_names 0 SHEET_BYTES no_cells left h)) w.0
+sheet_unread (Some left) a b ReadFault.Failed status h w = absurd (not_stopped status Stop.Read (Ok status) refl w.0)
+sheet_unread (Some left) a b ReadFault.OutOfMemory status h w = absurd (not_stopped status Stop.Memory (Ok status) refl w.0)
+
+pub sheet_unread_stops : (told : Option (List ℕ)) (a b : Sunk) (fault : ReadFault) (stop : Stop) → Explains fault SHEET_BYTES told → Unread 3 (refusal_line (codes "Sheet1: S4")) a b fault (Err stop) →
+    IfSome told (Reads a b (Err stop))
+sheet_unread_stops None a b fault stop h w = tt
+sheet_unread_stops (Some left) a b ReadFault.TooLong stop h w = λ read right.
+    subst (λ due. ReadsSheet due a b (Err stop)) (sym (too_long (read the_names) the_names 0 SHEET_BYTES no_cells left h)) (part_read (Err SheetRefusal.TooLong) a b stop w.0.0 w.0.1)
+sheet_unread_stops (Some left) a b ReadFault.Failed stop h w = λ read right.
+    subst (λ z. ReadsSheet (only_sheet read left) a b (Err z)) (one_stop stop Stop.Read (Err stop) refl w.0) (failed_read (only_sheet read left) a b w.1)
+sheet_unread_stops (Some left) a b ReadFault.OutOfMemory stop h w = λ read right.
+    subst (λ z. ReadsSheet (only_sheet read left) a b (Err z)) (one_stop stop Stop.Memory (Err stop) refl w.0)
+    (subst (λ s. ReadsSheet (only_sheet read left) a s (Err Stop.Memory)) (sym w.1) (none_read (only_sheet read left) a))
+
+-- what is known of any book that was read
+pub each_book : (P : Type 0) (r : Result (Option SharedBook) Stop) → P → IfOk r (λ book. IfSome book (λ _. P))
+each_book P (Ok (Some w)) h = h
+each_book P (Ok None) h = tt
+each_book P (Err stop) h = tt
+
+if_each : (P : List ℕ → Type 0) (o : Option (List ℕ)) → ((x : List ℕ) → P x) → IfSome o P
+if_each P None f = tt
+if_each P (Some x) f = f x
+
+if_more : (P Q : List ℕ → Type 0) (o : Option (List ℕ)) → ((x : List ℕ) → P x → Q x) → IfSome o P → IfSome o Q
+if_more P Q None f h = tt
+if_more P Q (Some x) f h = f x h
+
+-- ---- show and trace: what is made of the sheet
+
+answered : (next : Book → Output) (due : Result Book SheetRefusal) (w : SharedBook) (a b c : Sunk) (kept : Option OutcomeSeen) (r : Result ℕ Stop) → ReadsSheet due a b (Ok (Some w)) → Answers (next w.book) b c kept r →
+    Answers (with_sheet next due) a c kept r
+answered next (Ok d) w a b c kept r h k = subst (λ s. Answers (next d) s c kept r) h.1 (subst (λ z. Answers (next z) b c kept r) h.0 k)
+answered next (Err why) w a b c kept r h k = absurd h
+
+refusal_answered : (next : Book → Output) (due : Result Book SheetRefusal) (a b : Sunk) (kept : Option OutcomeSeen) → ReadsSheet due a b (Ok None) → kept ≡ None → Answers (with_sheet next due) a b kept (Ok 3)
+refusal_answered next (Ok d) a b kept h k = absurd h
+refusal_answered next (Err why) a b kept h k = (refl, h, k)
+
+stop_answered : (next : Book → Output) (due : Result Book SheetRefusal) (a b : Sunk) (kept : Option OutcomeSeen) (stop : Stop) → ReadsSheet due a b (Err stop) → Answers (with_sheet next due) a b kept (Err stop)
+stop_answered next (Ok d) a b kept Stop.Read h = h
+stop_answered next (Ok d) a b kept Stop.Write h = part_more [] (next d).pieces a b h
+stop_answered next (Ok d) a b kept Stop.Memory h = part_more [] (next d).pieces a b h
+stop_answered next (Err why) a b kept Stop.Read h = h
+stop_answered next (Err why) a b kept Stop.Write h = h
+stop_answered next (Err why) a b kept Stop.Memory h = h
+
+-- the sheet was read
+pub sheet_answers : (told : Option (List ℕ)) (next : Book → Output) (w : SharedBook) (a b c : Sunk) (kept : Option OutcomeSeen) (r : Result ℕ Stop) → IfSome told (Reads a b (Ok (Some w))) → Answers (next w.book) b c kept r →
+    IfSome told (SheetAnswers next a c kept r)
+sheet_answers told next w a b c kept r h k =
+    if_more (Reads a b (Ok (Some w))) (SheetAnswers next a c kept r) told (λ bytes s read right. answered next (only_sheet read bytes) w a b c kept r (s read right) k) h
+
+-- it is refused
+pub sheet_refused_answers : (told : Option (List ℕ)) (next : Book → Output) (a b : Sunk) (kept : Option OutcomeSeen) → IfSome told (Reads a b (Ok None)) → kept ≡ None → IfSome told (SheetAnswers next a b kept (Ok 3))
+sheet_refused_answers told next a b kept h k =
+    if_more (Reads a b (Ok None)) (SheetAnswers next a b kept (Ok 3)) told (λ bytes s read right. refusal_answered next (only_sheet read bytes) a b kept (s read right) k) h
+
+-- the run had to stop before
+pub sheet_stops : (told : Option (List ℕ)) (next : Book → Output) (a b : Sunk) (kept : Option OutcomeSeen) (stop : Stop) → IfSome told (Reads a b (Err stop)) → IfSome told (SheetAnswers next a b kept (Err stop))
+sheet_stops told next a b kept stop h =
+    if_more (Reads a b (Err stop)) (SheetAnswers next a b kept (Err stop)) told (λ bytes s read right. stop_answered next (only_sheet read bytes) a b kept stop (s read right)) h
+
+-- the input was read to its end, whatever the status is
+pub whole_read : (P : Type 0) (r : Result ℕ Stop) → P → IfOk r (λ status. status ≡ 0 → P)
+whole_read P (Ok status) h = λ _. h
+whole_read P (Err stop) h = tt
+
+-- why a run stopped that had written nothing before
+pub stops_later : (Cause : Type 0) (a b c : Sunk) (r : Result ℕ Stop) → b ≡ a → StopsFor ⊥ b c r → StopsFor Cause a c r
+stops_later Cause a b c r e h = subst (λ s. StopsFor Cause s c r) e (stops_for ⊥ Cause b c r (λ x. absurd x) h)
+
+-- ---- input that is not read
 
 pub unread_stops : (status : ℕ) (line : List ℕ) (a b : Sunk) (before now : ℕ) (fault : ReadFault) (r : Result ℕ Stop) → Counts fault before now → Unread status line a b fault r → StopsFor (HasRisen before now) a b r
 unread_stops status line a b before now ReadFault.TooLong r h w = refused_stops (HasRisen before now) (line ∷ []) a b r w.0
@@ -137,7 +257,7 @@ unwritten Cause None s kept Stop.Read h = refl
 unwritten Cause None s kept Stop.Write h = absurd h
 unwritten Cause None s kept Stop.Memory h = refl
 
-pub reading_stops : (Cause Other : Type 0) (s : Sunk) (stop : Stop) → (Cause → Other) → StopsReading {A = Loaded} Cause (Err stop) → StopsFor Other s s (Err stop)
+pub reading_stops : (Cause Other : Type 0) (s : Sunk) (stop : Stop) → (Cause → Other) → StopsReading {A = Loaded} Cause (Err stop) → StopsFor {A = ℕ} Other s s (Err stop)
 reading_stops Cause Other s Stop.Read f h = f h
 reading_stops Cause Other s Stop.Write f h = absurd h
 reading_stops Cause Other s Stop.Memory f h = tt
@@ -176,14 +296,6 @@ load_whole read names workers input Lacking w h = absurd h
 -- what is asked of an edit's end
 abbrev pub Edits : ℕ → List (List ℕ) → List StoredFile → Sunk → Sunk → Option OutcomeSeen → Result ℕ Stop → List ℕ → Type 0
 Edits workers files told a b kept r input = (read : Readings) → AreReadings read → AnswersAll (edit_output read workers files told input) a b kept r
-
-if_each : (P : List ℕ → Type 0) (o : Option (List ℕ)) → ((x : List ℕ) → P x) → IfSome o P
-if_each P None f = tt
-if_each P (Some x) f = f x
-
-if_more : (P Q : List ℕ → Type 0) (o : Option (List ℕ)) → ((x : List ℕ) → P x → Q x) → IfSome o P → IfSome o Q
-if_more P Q None f h = tt
-if_more P Q (Some x) f h = f x h
 
 pub edit_name_refused : (left : Option (List ℕ)) (workers number : ℕ) (files : List (String Global)) (told : List StoredFile) (what : List ℕ) (a b : Sunk) (kept : Option OutcomeSeen) (r : Result ℕ Stop) →
     bad_name (map (λ file. sheet_name (string_bytes file)) files) ≡ Some number → what ≡ name_refused number → Writes (refusal_line what ∷ []) a b r → IfOk r (λ s. s ≡ 3) → kept ≡ None →
@@ -228,6 +340,23 @@ files_lacking workers files names told input folder is good (inr h) = inr (inr (
     go : (o : Option (List StoredFile)) → LacksFiles names o (map string_bytes files) → Lacks (Some (edit workers (map string_bytes files))) o
     go None h = h
     go (Some stored) h = λ read right bytes. good_names_due read workers files names stored bytes is good ∙ ap (on_load (read names) names workers bytes) (h (read names) (right names))
+
+-- ---- demo
+
+-- what is asked of a demo's end, whatever the input has
+abbrev pub Demos : ℕ → ℕ → Sunk → Sunk → Option OutcomeSeen → Result ℕ Stop → List ℕ → Type 0
+Demos workers count a b kept r bytes = (read : Readings) → AreReadings read → Answers (demo_output read workers count) a b kept r
+
+pub demo_answers : (told : Option (List ℕ)) (workers count : ℕ) (a b : Sunk) (kept : Option OutcomeSeen) (r : Result ℕ Stop) → ((read : Readings) → AreReadings read → Answers (demo_output read workers count) a b kept r) →
+    IfSome told (Demos workers count a b kept r)
+demo_answers told workers count a b kept r h = if_each (Demos workers count a b kept r) told (λ bytes. h)
+
+-- it reads nothing
+pub never_reads : (a b : Sunk) (r : Result ℕ Stop) → StopsFor ⊥ a b r → NeverReads r
+never_reads a b (Ok status) h = tt
+never_reads a b (Err Stop.Read) h = h
+never_reads a b (Err Stop.Write) h = tt
+never_reads a b (Err Stop.Memory) h = tt
 
 -- ---- the whole run
 

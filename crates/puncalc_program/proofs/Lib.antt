@@ -1,10 +1,15 @@
 pub mod BareNames
 pub mod Changing
 pub mod Cuts
+pub mod Demos
 pub mod Ends
 pub mod Extents
+pub mod FormulaCells
+pub mod Generated
 pub mod Loading
 pub mod LoopCells
 pub mod Making
 pub mod Scripts
+pub mod Sums
+pub mod Tracing
 pub mod Written

@@ -1,18 +1,17 @@
 -- The cells of a book's loops.
-use Rattle.std.proofs.Common.{◌≡◌, ℕ, zero, ◌<◌, ◌≤◌, suc, inl, inr, List, [], ◌∷◌, length, get_or, Option, Some, None, refl, sym, subst, ap, ◌∙◌, arith}
-use Rattle.std.specs.Prelude.{All, slice_index_or}
+use Rattle.std.proofs.Common.{◌≡◌, ℕ, zero, ◌<◌, suc, inl, inr, List, [], ◌∷◌, length, get_or, Option, Some, None, refl, subst, ap, arith}
+use Rattle.std.specs.Prelude.{All}
 use Rattle.cell_values.specs.declared.address.Addr.{Addr}
 use Rattle.cell_values.specs.Order.{entry_at}
 use Rattle.formula_trees.specs.Expr.{Expr}
 use Rattle.demand_spec.specs.Book.{Book, Content, formula_at, formula_of}
-use Rattle.demand_spec.specs.Laws.{In, IsLoop, Unfinished}
+use Rattle.demand_spec.specs.Laws.{In}
 use Rattle.cycle_finder.specs.Laws.{IsWholeLoop}
 use Rattle.edit_script.specs.Targets.{IsCellOf}
-use Rattle.sheet_loading.specs.Contents.{Names}
 use Rattle.workbook_core.specs.Books.{SharedBook, IsWorkbook}
 
 -- a cell with a formula lies on one of the sheets
-formula_cell : (w : SharedBook) (a : Addr) (t : Expr) → IsWorkbook w → formula_at w.book a ≡ Some t → IsCellOf w.names a
+pub formula_cell : (w : SharedBook) (a : Addr) (t : Expr) → IsWorkbook w → formula_at w.book a ≡ Some t → IsCellOf w.names a
 unfolding formula_at
 formula_cell w a t h e = go (entry_at w.book.cells a) refl e
   where
@@ -23,7 +22,7 @@ formula_cell w a t h e = go (entry_at w.book.cells a) refl e
         none : (t : Expr) → None ≡ Some t → ⊥
         none t q = cc
 
-in_at : (xs : List Addr) (i : ℕ) (d : Addr) → i < length xs → In (get_or xs i d) xs
+pub in_at : (xs : List Addr) (i : ℕ) (d : Addr) → i < length xs → In (get_or xs i d) xs
 in_at [] i d h = absurd (omega arith)
 in_at (x ∷ xs) zero d h = inl refl
 in_at (x ∷ xs) (suc i) d h = inr (in_at xs i d (omega arith))

@@ -4,6 +4,7 @@ pub mod Refusals
 pub mod Files
 pub mod Outputs
 pub mod Script
+pub mod Demo
 pub mod Output
 pub mod Writing
 pub mod Desks

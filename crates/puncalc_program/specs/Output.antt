@@ -1,17 +1,20 @@
 -- What a run writes, and how it ends, by its words, its files and its input alone.
-use Rattle.std.specs.Prelude.{ℕ, Bool, true, false, List, [], ◌∷◌, Option, Some, None, Result, Ok, Err, nat_lt, length, map, codes, if◌then◌else◌}
+use Rattle.std.specs.Prelude.{ℕ, Bool, true, false, List, [], ◌∷◌, ◌++◌, Option, Some, None, Result, Ok, Err, nat_lt, length, map, codes, if◌then◌else◌}
 use Rattle.byte_streams.specs.Folders.{StoredFile}
 use Rattle.cell_values.specs.Names.{bad_name, sheet_name}
 use Rattle.command_words.specs.Asking.{Request, show, edit, trace, demo, asked}
-use Rattle.demand_spec.specs.Book.{Book}
+use Rattle.demand_spec.specs.Book.{Book, formulas}
 use Rattle.formula_grammar.specs.Reading.{Reading, IsReading}
+use Rattle.parallel_evaluation.specs.Order.{run_order}
 use Rattle.sheet_loading.specs.declared.TheConstants.{SHEET_BYTES}
 use Rattle.sheet_loading.specs.declared.faults.SheetRefusal.{SheetRefusal}
 use Rattle.sheet_loading.specs.Contents.{Names}
 use Rattle.sheet_loading.specs.Sheets.{no_cells, sheet_added}
+use Rattle.trace_text.specs.TraceText.{trace_lines}
 use Rattle.puncalc_program.specs.declared.script.TheConstants.{SCRIPT_BYTES}
+use Rattle.puncalc_program.specs.Demo.{demo_on, generated}
 use Rattle.puncalc_program.specs.Files.{Load, Whole, Refused, Lacking, files_loaded}
-use Rattle.puncalc_program.specs.Outputs.{Output, refusal}
+use Rattle.puncalc_program.specs.Outputs.{Output, refusal, behind}
 use Rattle.puncalc_program.specs.Refusals.{name_refused, sheet_refused}
 use Rattle.puncalc_program.specs.Script.{opened, recalculated, script_from, lines_of}
 use Rattle.puncalc_program.specs.Sheets.{sheet_rows}
@@ -23,20 +26,46 @@ Readings = Names → Reading
 abbrev pub AreReadings : Readings → Type 0
 AreReadings read = (names : Names) → IsReading names (read names)
 
--- the names of the sheets of `show`: there is one
+-- the names of the sheets, where the words name no files: there is one
 abbrev pub the_names : Names
 the_names = codes "Sheet1" ∷ []
 
--- ---- show
+-- ---- show and trace
 
--- the sheet recalculated, or its refusal
-abbrev pub shown_or_refused : ℕ → Result Book SheetRefusal → Output
-shown_or_refused workers (Ok b) = record { status = 0; pieces = sheet_rows b 0; last = (recalculated workers (opened b)).last }
-shown_or_refused workers (Err why) = refusal 3 (sheet_refused the_names 0 why) None
+-- what is made of the only sheet, unless it is refused
+abbrev pub with_sheet : (Book → Output) → Result Book SheetRefusal → Output
+with_sheet next (Ok b) = next b
+with_sheet next (Err why) = refusal 3 (sheet_refused the_names 0 why) None
+
+-- the sheet of the input
+abbrev pub only_sheet : Readings → List ℕ → Result Book SheetRefusal
+only_sheet read input = sheet_added (read the_names) the_names 0 SHEET_BYTES no_cells input
+
+-- the book recalculated, and its sheet
+abbrev pub shown_output : ℕ → Book → Output
+shown_output workers b = record { status = 0; pieces = sheet_rows b 0; last = (recalculated workers (opened b)).last }
 
 -- what `show` makes of its input
 abbrev pub show_output : Readings → ℕ → List ℕ → Output
-show_output read workers input = shown_or_refused workers (sheet_added (read the_names) the_names 0 SHEET_BYTES no_cells input)
+show_output read workers input = with_sheet (shown_output workers) (only_sheet read input)
+
+-- the steps of a recalculation by workers that step in this order and of which some stop
+abbrev pub step_lines : ℕ → List ℕ → List ℕ → Book → List (List ℕ)
+step_lines workers order stopped b = trace_lines (formulas b) stopped (run_order b (formulas b) workers order stopped)
+
+-- these steps, and then the sheet
+abbrev pub traced_output : ℕ → List ℕ → List ℕ → Book → Output
+traced_output workers order stopped b = behind (step_lines workers order stopped b) (behind (codes "result\n" ∷ []) (shown_output workers b))
+
+-- what `trace` makes of its input
+abbrev pub trace_output : Readings → ℕ → List ℕ → List ℕ → List ℕ → Output
+trace_output read workers order stopped input = with_sheet (traced_output workers order stopped) (only_sheet read input)
+
+-- ---- demo
+
+-- what `demo` makes
+abbrev pub demo_output : Readings → ℕ → ℕ → Output
+demo_output read workers count = demo_on (read the_names) the_names workers (generated (read the_names) the_names count)
 
 -- ---- edit
 
@@ -68,28 +97,36 @@ edit_output read workers files folder script =
 abbrev pub words_refused : Output
 words_refused = refusal 2 (codes "words") None
 
--- what is made of a request; `trace` and `demo` are not there yet
+-- what is made of a request
 abbrev pub request_output : Readings → Option Request → List StoredFile → List ℕ → Option Output
 request_output read (Some (show workers)) folder input = Some (show_output read workers input)
 request_output read (Some (edit workers files)) folder input = edit_output read workers files folder input
-request_output read (Some (trace workers order stopped)) folder input = Some words_refused
-request_output read (Some (demo workers count)) folder input = Some words_refused
+request_output read (Some (trace workers order stopped)) folder input = Some (trace_output read workers order stopped input)
+request_output read (Some (demo workers count)) folder input = Some (demo_output read workers count)
 request_output read None folder input = Some words_refused
 
 -- what the program makes of its words, the files of its folder and its input; None where a file is lacking
 unfoldable pub output : Readings → List (List ℕ) → List StoredFile → List ℕ → Option Output
 output read words folder input = request_output read (asked words) folder input
 
--- a command that is there is asked for
-abbrev pub is_there : Option Request → Bool
-is_there (Some (show workers)) = true
-is_there (Some (edit workers files)) = true
-is_there (Some (trace workers order stopped)) = false
-is_there (Some (demo workers count)) = false
-is_there None = false
+-- something is asked for
+abbrev pub is_request : Option Request → Bool
+is_request (Some request) = true
+is_request None = false
 
 abbrev pub are_accepted : List (List ℕ) → Bool
-are_accepted words = is_there (asked words)
+are_accepted words = is_request (asked words)
+
+-- the input is asked for: a sheet or a script
+abbrev pub is_reading : Option Request → Bool
+is_reading (Some (show workers)) = true
+is_reading (Some (edit workers files)) = true
+is_reading (Some (trace workers order stopped)) = true
+is_reading (Some (demo workers count)) = false
+is_reading None = false
+
+abbrev pub ask_for_input : List (List ℕ) → Bool
+ask_for_input words = is_reading (asked words)
 
 -- files are asked for
 abbrev pub is_edit : Option Request → Bool

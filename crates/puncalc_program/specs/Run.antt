@@ -1,13 +1,17 @@
 -- How a run ends.
-use Rattle.std.specs.Prelude.{◌≡◌, ℕ, ◌⊎◌, true, List, Option, Some, None, IsSomeAnd, Result, Ok, Err}
+use Rattle.std.specs.Prelude.{◌≡◌, ℕ, ◌⊎◌, true, List, [], ◌∷◌, Option, Some, None, IsSomeAnd, Result, Ok, Err}
 use Rattle.byte_streams.specs.Faults.{HasRisen}
 use Rattle.byte_streams.specs.Folders.{StoredFile}
 use Rattle.command_words.specs.Asking.{Request}
 use Rattle.claim_core.specs.Passes.{OutcomeSeen}
+use Rattle.demand_spec.specs.Book.{Book}
+use Rattle.sheet_loading.specs.declared.faults.SheetRefusal.{SheetRefusal}
+use Rattle.workbook_core.specs.Books.{SharedBook}
 use Rattle.puncalc_program.specs.declared.stop.Stop.{Stop}
 use Rattle.puncalc_program.specs.Desks.{KeptIs}
 use Rattle.puncalc_program.specs.Outputs.{Output}
-use Rattle.puncalc_program.specs.Output.{Readings, AreReadings, is_edit, request_output}
+use Rattle.puncalc_program.specs.Output.{Readings, AreReadings, is_edit, request_output, the_names}
+use Rattle.puncalc_program.specs.Refusals.{refusal_line, sheet_refused}
 use Rattle.puncalc_program.specs.Writing.{Sunk, WritesAll, WritesPart}
 
 -- the statuses of a run that came to its end; one that had to stop has 5, 6 or 7
@@ -47,8 +51,8 @@ AnswersAll None old new kept (Err Stop.Write) = ⊥
 AnswersAll None old new kept (Err Stop.Memory) = new ≡ old
 
 -- it stopped for a cause: something could not be read, for this cause; a write failed; or memory ran out
-abbrev pub StopsFor : Type 0 → Sunk → Sunk → Result ℕ Stop → Type 0
-StopsFor Cause old new (Ok status) = Unit {0}
+abbrev pub StopsFor : {A : Type 0} → Type 0 → Sunk → Sunk → Result A Stop → Type 0
+StopsFor Cause old new (Ok _) = Unit {0}
 StopsFor Cause old new (Err Stop.Read) = Cause
 StopsFor Cause old new (Err Stop.Write) = HasRisen old.faults new.faults
 StopsFor Cause old new (Err Stop.Memory) = Unit {0}
@@ -69,3 +73,18 @@ NeverReads (Ok _) = Unit {0}
 NeverReads (Err Stop.Read) = ⊥
 NeverReads (Err Stop.Write) = Unit {0}
 NeverReads (Err Stop.Memory) = Unit {0}
+
+-- the line of a refusal, if the sheet is refused
+abbrev pub sheet_refusal : Result Book SheetRefusal → List (List ℕ)
+sheet_refusal (Ok b) = []
+sheet_refusal (Err why) = refusal_line (sheet_refused the_names 0 why) ∷ []
+
+-- the sheet of the input was read, or its refusal was written; or the run had to stop on the way
+abbrev pub ReadsSheet : Result Book SheetRefusal → Sunk → Sunk → Result (Option SharedBook) Stop → Type 0
+ReadsSheet (Ok b) old new (Ok (Some w)) = (w.book ≡ b) × (new ≡ old)
+ReadsSheet (Ok b) old new (Ok None) = ⊥
+ReadsSheet (Err why) old new (Ok (Some w)) = ⊥
+ReadsSheet (Err why) old new (Ok None) = WritesAll (sheet_refusal (Err why)) old new
+ReadsSheet due old new (Err Stop.Read) = new ≡ old
+ReadsSheet due old new (Err Stop.Write) = WritesPart (sheet_refusal due) old new
+ReadsSheet due old new (Err Stop.Memory) = WritesPart (sheet_refusal due) old new

@@ -1,6 +1,6 @@
 //! The commands of the program.
 
-ghost use Rattle.std.specs.Prelude.{◌≡◌, ◌≢◌, ◌≤◌, ◌+◌, ◌⊎◌, [], List, None, Some, Ok, length, map, string_bytes, IfOk, IfSome};
+ghost use Rattle.std.specs.Prelude.{◌≡◌, ◌≢◌, ◌≤◌, ◌+◌, ◌⊎◌, [], List, None, Some, length, map, string_bytes, IfOk, IfSome};
 ghost use Rattle.std.specs.Option.{option_map};
 ghost use Rattle.byte_streams.specs.Faults.{HasRisen};
 ghost use Rattle.byte_streams.specs.Folders.{StoredFile};
@@ -9,26 +9,24 @@ ghost use Rattle.command_words.specs.Sound.{IsWithin};
 ghost use Rattle.formula_grammar.specs.Reading.{Reading, IsReading};
 ghost use Rattle.command_words.specs.declared.TheConstants.{MAX_FILES, MAX_WORKERS};
 ghost use Rattle.sheet_loading.specs.declared.TheConstants.{SHEET_BYTES};
-ghost use Rattle.sheet_loading.specs.Sheets.{no_cells, sheet_added};
 ghost use Rattle.puncalc_program.specs.declared.script.TheConstants.{SCRIPT_BYTES};
-ghost use Rattle.puncalc_program.specs.Output.{AreReadings, Readings, edit_output, script_output, show_output, shown_or_refused, the_names};
+ghost use Rattle.puncalc_program.specs.Output.{AreReadings, Readings, edit_output, script_output, show_output, shown_output};
 ghost use Rattle.puncalc_program.specs.Run.{Answers, AnswersAll, CouldNotRead, IsFinal, StopsFor};
 ghost use Rattle.puncalc_program.specs.Script.{lines_of, opened, script_from};
-ghost use Rattle.puncalc_program.specs.Refusals.{refusal_line};
-ghost use Rattle.puncalc_program.specs.Writing.{sunk, Unread};
+ghost use Rattle.puncalc_program.specs.Writing.{sunk};
 
 use crate::desk::{Desk, Workers};
-use crate::files::{Loaded, load_files, load_sheet};
+use crate::files::{Loaded, load_files};
+use crate::input::{read_sheet, refuse_input};
 use crate::refusals::name_refused;
 use crate::script::SCRIPT_BYTES;
 use crate::stop::Stop;
 use crate::writing::refuse;
-use byte_streams::{Folder, ReadFault, Sink, Source, read_all};
+use byte_streams::{Folder, Sink, Source, read_all};
 use cell_values::{NameFault, SheetNames};
 use claim_core::Outcome;
 use recalculation::Pace;
-use sheet_loading::SHEET_BYTES;
-use std::alloc::{AllocError, Global};
+use std::alloc::Global;
 use std::thread::Threads;
 use workbook_core::Workbook;
 
@@ -49,48 +47,9 @@ pub(crate) fn show<R: Threads + Sync, S: Source, K: Sink, P: Pace>(
     ensures causes { StopsFor (HasRisen (S.faults input.old) (S.faults input.new)) (sunk K.written K.faults K.calls out.old) (sunk K.written K.faults K.calls out.new) result }
     ensures few_reads { S.calls input.new ≤ S.calls input.old + SHEET_BYTES + 1 }
 {
-    match read_all(alloc, input, SHEET_BYTES) {
-        Ok(bytes) => show_bytes(alloc, workers, &bytes, out, kept),
-        Err(fault) => refuse_input(alloc, fault, 3, "Sheet1: S4", out),
-    }
-}
-
-/// Ends a run whose input could not be read to its end: with this refusal and status, where it has too many bytes.
-fn refuse_input<K: Sink>(
-    alloc: Global,
-    fault: ReadFault,
-    status: u8,
-    what: &str,
-    out: &mut K,
-) -> Result<u8, Stop>
-    ensures { Unread status (refusal_line what.now) (sunk K.written K.faults K.calls out.old) (sunk K.written K.faults K.calls out.new) fault result }
-{
-    match fault {
-        ReadFault::TooLong => refuse(alloc, status, what, out),
-        ReadFault::Failed => Err(Stop::Read),
-        ReadFault::OutOfMemory => Err(Stop::Memory),
-    }
-}
-
-/// Shows the sheet of these bytes.
-fn show_bytes<R: Threads + Sync, K: Sink, P: Pace>(
-    alloc: Global,
-    workers: &Workers<'_, R, P>,
-    bytes: &[u8],
-    out: &mut K,
-    kept: &mut Option<Outcome>,
-) -> Result<u8, Stop>
-    requires workers { IsWithin 1 MAX_WORKERS workers.now.count }
-    requires kept { kept.old ≡ None }
-    ensures answers { (read : Readings) → AreReadings read →
-        Answers (shown_or_refused workers.now.count (sheet_added (read the_names) the_names 0 SHEET_BYTES no_cells bytes.now)) (sunk K.written K.faults K.calls out.old) (sunk K.written K.faults K.calls out.new) kept.new result }
-    ensures ended { IfOk result (λ status. (status ≡ 0) ⊎ (status ≡ 3)) }
-    ensures causes { StopsFor ⊥ (sunk K.written K.faults K.calls out.old) (sunk K.written K.faults K.calls out.new) result }
-{
-    let names = only_sheet(alloc)?;
-    match load_sheet(alloc, names, bytes)? {
-        Loaded::Whole(book) => show_book(alloc, workers, book, out, kept),
-        Loaded::Refused(what) => refuse(alloc, 3, &what, out),
+    match read_sheet(alloc, input, out)? {
+        Some(book) => show_book(alloc, workers, book, out, kept),
+        None => Ok(3),
     }
 }
 
@@ -103,7 +62,7 @@ fn show_book<R: Threads + Sync, K: Sink, P: Pace>(
     kept: &mut Option<Outcome>,
 ) -> Result<u8, Stop>
     requires { IsWithin 1 MAX_WORKERS workers.now.count }
-    ensures answers { Answers (shown_or_refused workers.now.count (Ok book.book)) (sunk K.written K.faults K.calls out.old) (sunk K.written K.faults K.calls out.new) kept.new result }
+    ensures answers { Answers (shown_output workers.now.count book.book) (sunk K.written K.faults K.calls out.old) (sunk K.written K.faults K.calls out.new) kept.new result }
     ensures ended { IfOk result (λ status. status ≡ 0) }
     ensures causes { StopsFor ⊥ (sunk K.written K.faults K.calls out.old) (sunk K.written K.faults K.calls out.new) result }
 {
@@ -112,18 +71,6 @@ fn show_book<R: Threads + Sync, K: Sink, P: Pace>(
     desk.write_sheet(0, out)?;
     *kept = desk.into_kept();
     Ok(0)
-}
-
-/// The names of the sheets of `show`: there is one.
-fn only_sheet(alloc: Global) -> Result<SheetNames, AllocError>
-    ensures { IfOk result (λ names. names ≡ the_names) }
-{
-    let name = String::from_str(alloc, "Sheet1")?;
-    let files = vec![in alloc; name]?;
-    match SheetNames::new(alloc, &files) {
-        Ok(names) => Ok(names),
-        Err(_) => Err(AllocError),
-    }
 }
 
 /// Fetches the files, reads the input to its end, and edits their sheets by the script that it holds.

@@ -4,8 +4,9 @@ ghost use Rattle.std.specs.Prelude.{◌≡◌, ◌<◌, ◌≤◌, [], None, len
 ghost use Rattle.std.specs.Option.{option_or};
 ghost use Rattle.cell_values.specs.Addresses.{IsOnSheet};
 ghost use Rattle.demand_spec.specs.Sheets.{last_column, last_row};
-ghost use Rattle.command_words.specs.Sound.{IsWithin};
+ghost use Rattle.command_words.specs.Sound.{IsTrace, IsWithin};
 ghost use Rattle.command_words.specs.declared.TheConstants.{MAX_WORKERS};
+ghost use Rattle.parallel_evaluation.specs.Order.{run_order};
 ghost use Rattle.workbook_core.specs.Books.{IsWorkbook};
 ghost use Rattle.puncalc_program.specs.Cells.{cell_name, cell_shows};
 ghost use Rattle.puncalc_program.specs.Desks.{IsDone, KeptIs, setup_kept};
@@ -18,7 +19,7 @@ use crate::writing::put;
 use byte_streams::Sink;
 use cell_values::{Addr, SheetNames};
 use claim_core::Outcome;
-use recalculation::{Calc, Pace};
+use recalculation::{Calc, Pace, Traced};
 use sheet_csv::write_row;
 use std::alloc::{AllocError, Global};
 use std::marker::Model;
@@ -92,6 +93,26 @@ impl Desk {
             .recalculate(workers.rt, workers.count, workers.pace)?;
         keep(&mut self.kept, summary.outcome);
         Ok(summary.pending)
+    }
+
+    /// The same by workers that step in the given order in this thread, some of which stop. Answers their steps.
+    pub(crate) fn recalculate_in_order(
+        &mut self,
+        workers: u8,
+        order: &[u8],
+        stopped: &[u8],
+    ) -> Result<Vec<Traced>, AllocError>
+        requires { IsTrace workers order.now stopped.now }
+        ensures done { OnOk result (self.new.standing ≡ recalculated workers self.old.standing) }
+        ensures steps { IfOk result (λ steps. steps.items ≡ run_order self.old.standing.book self.old.standing.pending workers order.now stopped.now) }
+        ensures names { self.new.names ≡ self.old.names }
+    {
+        let mut steps = Vec::new(self.alloc);
+        let summary = self
+            .calc
+            .recalculate_in_order(workers, order, stopped, &mut steps)?;
+        keep(&mut self.kept, summary.outcome);
+        Ok(steps)
     }
 
     /// The closed round of the last recalculation that had something to do.

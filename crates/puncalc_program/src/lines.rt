@@ -61,7 +61,7 @@ impl Desk {
 
     /// Puts a field into a cell.
     #[tactic(auto, unfolding(crate::specs::Script::turn))]
-    fn set(&mut self, at: Addr, field: &FieldText) -> Result<Option<LineRefusal>, Stop>
+    pub(crate) fn set(&mut self, at: Addr, field: &FieldText) -> Result<Option<LineRefusal>, Stop>
         requires { IsCellOf self.old.names at }
         ensures changes { (read : Reading) → IsReading self.old.names read → (workers : ℕ) →
             Changes (turn read self.old.names workers (Line.Set at field.now) self.old.standing) self.old.standing self.new.standing result }

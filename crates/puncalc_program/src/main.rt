@@ -3,14 +3,21 @@
 #![tactic(auto)]
 
 mod commands;
+mod demo;
 mod desk;
 mod files;
+mod formulas;
+mod input;
 mod lines;
 mod names;
 mod refusals;
 mod run;
 mod script;
 mod stop;
+mod tally;
+#[cfg(test)]
+mod tests;
+mod trace;
 mod writing;
 
 use byte_streams::{StdFolder, StdSink, StdSource};

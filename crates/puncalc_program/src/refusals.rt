@@ -103,7 +103,8 @@ pub(crate) fn line_refused(
     format!(in alloc; "line {number}{fault}")
 }
 
-fn line_fault(alloc: Global, why: LineRefusal) -> Result<String, AllocError>
+/// What is wrong with a line.
+pub(crate) fn line_fault(alloc: Global, why: LineRefusal) -> Result<String, AllocError>
     ensures { IfOk result (λ text. string_bytes text ≡ line_fault why) }
 {
     match why {

@@ -7,13 +7,15 @@ ghost use Rattle.byte_streams.specs.Folders.{StoredFile};
 ghost use Rattle.command_words.specs.Asking.{asked, request_of};
 ghost use Rattle.command_words.specs.Sound.{IsSound};
 ghost use Rattle.sheet_loading.specs.declared.TheConstants.{SHEET_BYTES};
-ghost use Rattle.puncalc_program.specs.Output.{are_accepted, asks_for_files, is_edit, is_there, output, request_output, words_refused, AreReadings, Readings};
+ghost use Rattle.puncalc_program.specs.Output.{are_accepted, ask_for_input, asks_for_files, is_edit, is_reading, is_request, output, request_output, words_refused, AreReadings, Readings};
 ghost use Rattle.puncalc_program.specs.Run.{Answers, AnswersAll, CouldNotRead, Ends, IsFinal, IsStatus, NeverReads, RunEnds, StopsFor};
 ghost use Rattle.puncalc_program.specs.Writing.{sunk};
 
 use crate::commands::{edit, show};
+use crate::demo::demo;
 use crate::desk::Workers;
 use crate::stop::Stop;
+use crate::trace::trace;
 use crate::writing::refuse;
 use byte_streams::{Folder, Sink, Source};
 use claim_core::Outcome;
@@ -25,7 +27,8 @@ use std::thread::Threads;
 
 /// Runs the program on the words that stand behind its name, and answers its status.
 ///
-/// `show` reads one sheet from the input; `edit` fetches its sheets from the folder, and reads a script from the input.
+/// `show` and `trace` read one sheet from the input; `edit` fetches its sheets from the folder, and reads a script from the
+/// input; `demo` reads nothing.
 /// The status is 0 where all was accepted, 2 where the words are refused, 3 where a sheet or its name is refused, 4 where
 /// the script or a line of it is refused, 5 where the input or a file could not be read, 6 where the output could not be
 /// written, and 7 where there was no memory. `kept` gets the closed round of the last recalculation that had something to
@@ -46,12 +49,12 @@ pub fn run<R: Threads + Sync, D: Folder, S: Source, K: Sink, P: Pace>(
     // There is a reading of all texts, and any two agree on each formula.
     ensures readable { (read : Readings) × AreReadings read }
     ensures statuses { IsStatus result }
-    ensures read_whole { result ≡ 0 → S.left input.new ≡ option_map (λ _. []) (S.left input.old) }
+    ensures read_whole { ask_for_input (map string_bytes words.now.items) ≡ true → result ≡ 0 → S.left input.new ≡ option_map (λ _. []) (S.left input.old) }
 
-    // The words alone decide on status 2, and nothing is read then.
+    // The words alone decide on status 2. Nothing is read then, and nothing by `demo`.
     ensures refused_words { are_accepted (map string_bytes words.now.items) ≡ false →
         RunEnds words_refused result (sunk K.written K.faults K.calls out.old) (sunk K.written K.faults K.calls out.new) kept.new }
-    ensures unread { are_accepted (map string_bytes words.now.items) ≡ false →
+    ensures unread { ask_for_input (map string_bytes words.now.items) ≡ false →
         (S.left input.new ≡ S.left input.old) × (S.faults input.new ≡ S.faults input.old) × (S.calls input.new ≡ S.calls input.old) × (result ≢ 5) }
     ensures words_alone { result ≡ 2 → are_accepted (map string_bytes words.now.items) ≡ false }
 
@@ -89,12 +92,12 @@ fn answer<R: Threads + Sync, D: Folder, S: Source, K: Sink, P: Pace>(
     ensures answers { (files : List StoredFile) → (is_edit (asked (map string_bytes words.now.items)) ≡ true → D.files folder.old ≡ Some files) →
         IfSome (S.left input.old) (λ bytes. (read : Readings) → AreReadings read →
         AnswersAll (request_output read (asked (map string_bytes words.now.items)) files bytes) (sunk K.written K.faults K.calls out.old) (sunk K.written K.faults K.calls out.new) kept.new result) }
-    ensures read_whole { IfOk result (λ status. status ≡ 0 → S.left input.new ≡ option_map (λ _. []) (S.left input.old)) }
-    ensures refused_words { is_there (asked (map string_bytes words.now.items)) ≡ false →
+    ensures read_whole { is_reading (asked (map string_bytes words.now.items)) ≡ true → IfOk result (λ status. status ≡ 0 → S.left input.new ≡ option_map (λ _. []) (S.left input.old)) }
+    ensures refused_words { is_request (asked (map string_bytes words.now.items)) ≡ false →
         Answers words_refused (sunk K.written K.faults K.calls out.old) (sunk K.written K.faults K.calls out.new) kept.new result }
-    ensures unread { is_there (asked (map string_bytes words.now.items)) ≡ false →
+    ensures unread { is_reading (asked (map string_bytes words.now.items)) ≡ false →
         (S.left input.new ≡ S.left input.old) × (S.faults input.new ≡ S.faults input.old) × (S.calls input.new ≡ S.calls input.old) × NeverReads result }
-    ensures words_alone { IfOk result (λ status. status ≡ 2 → is_there (asked (map string_bytes words.now.items)) ≡ false) }
+    ensures words_alone { IfOk result (λ status. status ≡ 2 → is_request (asked (map string_bytes words.now.items)) ≡ false) }
     ensures unfetched { is_edit (asked (map string_bytes words.now.items)) ≡ false → D.faults folder.new ≡ D.faults folder.old }
     ensures same_files { D.files folder.new ≡ D.files folder.old }
     ensures ended { IfOk result IsFinal }
@@ -122,12 +125,12 @@ fn act<R: Threads + Sync, D: Folder, S: Source, K: Sink, P: Pace>(
     ensures answers { (files : List StoredFile) → (is_edit (option_map request_of asked) ≡ true → D.files folder.old ≡ Some files) →
         IfSome (S.left input.old) (λ bytes. (read : Readings) → AreReadings read →
         AnswersAll (request_output read (option_map request_of asked) files bytes) (sunk K.written K.faults K.calls out.old) (sunk K.written K.faults K.calls out.new) kept.new result) }
-    ensures read_whole { IfOk result (λ status. status ≡ 0 → S.left input.new ≡ option_map (λ _. []) (S.left input.old)) }
-    ensures refused_words { is_there (option_map request_of asked) ≡ false →
+    ensures read_whole { is_reading (option_map request_of asked) ≡ true → IfOk result (λ status. status ≡ 0 → S.left input.new ≡ option_map (λ _. []) (S.left input.old)) }
+    ensures refused_words { is_request (option_map request_of asked) ≡ false →
         Answers words_refused (sunk K.written K.faults K.calls out.old) (sunk K.written K.faults K.calls out.new) kept.new result }
-    ensures unread { is_there (option_map request_of asked) ≡ false →
+    ensures unread { is_reading (option_map request_of asked) ≡ false →
         (S.left input.new ≡ S.left input.old) × (S.faults input.new ≡ S.faults input.old) × (S.calls input.new ≡ S.calls input.old) × NeverReads result }
-    ensures words_alone { IfOk result (λ status. status ≡ 2 → is_there (option_map request_of asked) ≡ false) }
+    ensures words_alone { IfOk result (λ status. status ≡ 2 → is_request (option_map request_of asked) ≡ false) }
     ensures unfetched { is_edit (option_map request_of asked) ≡ false → D.faults folder.new ≡ D.faults folder.old }
     ensures same_files { D.files folder.new ≡ D.files folder.old }
     ensures ended { IfOk result IsFinal }
@@ -152,6 +155,21 @@ fn act<R: Threads + Sync, D: Folder, S: Source, K: Sink, P: Pace>(
             };
             edit(alloc, &workers, &files, folder, input, out, kept)
         }
-        _ => refuse(alloc, 2, "words", out),
+        Some(
+            Asked::Trace {
+                workers,
+                order,
+                stopped,
+            },
+        ) => trace(alloc, workers, &order, &stopped, input, out, kept),
+        Some(Asked::Demo { workers, count }) => {
+            let workers = Workers {
+                rt,
+                pace,
+                count: workers,
+            };
+            demo(alloc, &workers, count, out, kept)
+        }
+        None => refuse(alloc, 2, "words", out),
     }
 }

@@ -1,7 +1,7 @@
 use Rattle.std.proofs.Common.{◌∷◌, [], ◌∙◌, map, ap, string_bytes}
 use Rattle.cell_values.specs.Names.{sheet_name}
 use Rattle.puncalc_program.proofs.Loading.{only_name}
-use Rattle.puncalc_program.proofs.commands.only_sheet.Goals as goal
+use Rattle.puncalc_program.proofs.input.one_name.Goals as goal
 
 pub returns-in-Ok : goal.returns-in-Ok
 returns-in-Ok c =
