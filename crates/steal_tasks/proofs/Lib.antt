@@ -1,0 +1,4 @@
+pub mod Parts
+pub mod Rounds
+pub mod Sharing
+pub mod Taking
