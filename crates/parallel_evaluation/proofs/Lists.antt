@@ -1,12 +1,13 @@
 -- Lists that were lent, and the passes of a round.
-use Rattle.std.proofs.Common.{◌≡◌, ◌∙◌, ◌+◌, ℕ, zero, suc, List, [], ◌∷◌, ◌++◌, length, map, take, drop, reverse, append_assoc, refl, sym, ap, subst, arith}
+use Rattle.std.proofs.Common.{◌≡◌, ◌∙◌, ◌+◌, ℕ, zero, suc, true, None, List, [], ◌∷◌, ◌++◌, length, map, take, drop, reverse, append_assoc, refl, sym, ap, subst, arith}
 use Rattle.std.proofs.lemmas.List.{length-map, reverse-append}
 use Rattle.std.proofs.lemmas.List.Elements.{All-append, All-take, All-drop}
 use Rattle.claim_core.specs.Table.{count_from}
 use Rattle.claim_core.specs.Passes.{RoundSeen, PassSeen, IsFresh, number}
-use Rattle.speculative_eval.specs.Workers.{IsWorkerOf}
+use Rattle.speculative_eval.specs.Hinted.{HintsSeen, hints_with}
+use Rattle.speculative_eval.specs.Workers.{IsWorkerOf, begun}
 use Rattle.parallel_evaluation.specs.Workers.{begun_in}
-use Rattle.std.specs.List.{All}
+use Rattle.std.specs.List.{All, zip}
 use Rattle.std.proofs.Math.Seq.{take-append_seam}
 
 -- a list that was lent whole and came back
@@ -21,24 +22,34 @@ length-count_from (suc n) a = ap suc (length-count_from n (a + 1))
 pub passes_counted : (n : ℕ) (ps : List PassSeen) → map number ps ≡ count_from n 0 → length ps ≡ n
 passes_counted n ps e = sym (length-map ps number) ∙ (ap length e ∙ length-count_from n 0)
 
--- the workers of a round that was just opened may step
-pub workers_fresh : (r : RoundSeen) (ps : List PassSeen) → All (IsFresh r) ps → All (IsWorkerOf r) (map (begun_in r) ps)
-workers_fresh r [] h = λ k d low. absurd (omega arith)
-workers_fresh r (p ∷ ps) h = each (workers_fresh r ps (λ k d low. h (suc k) d (omega arith)))
+-- the workers of a round that was just opened may step, whatever their hints are
+pub workers_fresh : {H : Type 0} (r : RoundSeen) (seen : H → HintsSeen) (ps : List PassSeen) (hs : List H) → All (IsFresh r) ps → All (IsWorkerOf r) (map (λ p. begun r p.0 (seen p.1)) (zip ps hs))
+workers_fresh r seen [] hs all = λ k d low. absurd (omega arith)
+workers_fresh r seen (p ∷ ps) [] all = λ k d low. absurd (omega arith)
+workers_fresh {H} r seen (p ∷ ps) (h ∷ hs) all = each (workers_fresh r seen ps hs (λ k d low. all (suc k) d (omega arith)))
   where
-    first : IsWorkerOf r (begun_in r p)
-    first = ((h 0 p (omega arith)).0, refl)
+    first : IsWorkerOf r (begun r p (seen h))
+    first = ((all 0 p (omega arith)).0, refl)
 
-    each : All (IsWorkerOf r) (map (begun_in r) ps) → All (IsWorkerOf r) (map (begun_in r) (p ∷ ps))
+    each : All (IsWorkerOf r) (map (λ p. begun r p.0 (seen p.1)) (zip ps hs)) → All (IsWorkerOf r) (map (λ p. begun r p.0 (seen p.1)) (zip (p ∷ ps) (h ∷ hs)))
     each rest zero d low = first
     each rest (suc k) d low = rest k d (omega arith)
 
--- one pass less, the last, and one worker more
-pub hired_next : {A B : Type 0} (f : A → B) (ws ws' : List B) (ps rest : List A) (p : A) (w : B) → ps ≡ rest ++ p ∷ [] → ws' ≡ ws ++ w ∷ [] → w ≡ f p → ws' ++ map f (reverse rest) ≡ ws ++ map f (reverse ps)
-hired_next {A} {B} f ws ws' ps rest p w popped pushed made =
-    let turned : reverse ps ≡ p ∷ reverse rest = ap reverse popped ∙ reverse-append rest (p ∷ []) in
-    (λ i. pushed i ++ map f (reverse rest)) ∙ (append_assoc ws (w ∷ []) (map f (reverse rest))
-    ∙ ((λ i. ws ++ (made i ∷ map f (reverse rest))) ∙ ap (λ qs. ws ++ map f qs) (sym turned)))
+-- workers that get no hints are told by their passes
+pub without_hints : {H : Type 0} (r : RoundSeen) (ps : List PassSeen) (hs : List H) → length hs ≡ length ps → map (λ p. begun r p.0 (hints_with 0 None true)) (zip ps hs) ≡ map (begun_in r) ps
+without_hints r [] hs e = refl
+without_hints r (p ∷ ps) [] e = absurd (omega arith)
+without_hints r (p ∷ ps) (h ∷ hs) e = ap (λ ws. begun_in r p ∷ ws) (without_hints r ps hs (omega arith))
+
+-- one pass and its hints less, the last, and one worker more
+pub hired_next : {A B C : Type 0} (f : A × C → B) (ws ws' : List B) (ps rest : List A) (hs left : List C) (p : A) (h : C) (w : B)
+    → ps ≡ rest ++ p ∷ [] → hs ≡ left ++ h ∷ [] → ws' ≡ ws ++ w ∷ [] → w ≡ f (p, h)
+    → ws' ++ map f (zip (reverse rest) (reverse left)) ≡ ws ++ map f (zip (reverse ps) (reverse hs))
+hired_next {A} {B} {C} f ws ws' ps rest hs left p h w popped taken pushed made =
+    let turned : p ∷ reverse rest ≡ reverse ps = sym (ap reverse popped ∙ reverse-append rest (p ∷ [])) in
+    let turned_hints : h ∷ reverse left ≡ reverse hs = sym (ap reverse taken ∙ reverse-append left (h ∷ [])) in
+    (λ i. pushed i ++ map f (zip (reverse rest) (reverse left))) ∙ (append_assoc ws (w ∷ []) (map f (zip (reverse rest) (reverse left)))
+    ∙ ((λ i. ws ++ (made i ∷ map f (zip (reverse rest) (reverse left)))) ∙ (λ i. ws ++ map f (zip (turned i) (turned_hints i)))))
 
 -- what holds of each element holds of each but one
 pub but_one : {A : Type 0} (P : A → Type 0) (xs : List A) (k : ℕ) → All P xs → All P (take k xs ++ drop (k + 1) xs)

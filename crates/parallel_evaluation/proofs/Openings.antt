@@ -1,5 +1,5 @@
 -- Workers of a round that was just opened, on the board.
-use Rattle.std.proofs.Common.{◌≡◌, ◌≢◌, ℕ, zero, suc, ◌+◌, ◌*◌, ◌<◌, ◌≤◌, true, List, [], ◌∷◌, ◌++◌, map, replicate, length, sym, refl, ap, ◌∙◌, subst, arith}
+use Rattle.std.proofs.Common.{◌≡◌, ◌≢◌, ℕ, zero, suc, ◌+◌, List, [], ◌∷◌, map, replicate, length, sym, refl, ap, ◌∙◌, subst, arith}
 use Rattle.std.specs.List.{All}
 use Rattle.std.proofs.lemmas.List.{length-map}
 use mathlib.Core.Option.{some, some-injective, some-ne-none}
@@ -14,7 +14,7 @@ use Rattle.worker_machine.specs.States.{start}
 use Rattle.speculative_eval.specs.Workers.{WorkerSeen}
 use Rattle.parallel_evaluation.specs.declared.trace.Traced.{Traced}
 use Rattle.parallel_evaluation.specs.Workers.{begun_in}
-use Rattle.parallel_evaluation.specs.Order.{Board, job_of, opening, run, all_ended, whole_run, run_order}
+use Rattle.parallel_evaluation.specs.Order.{job_of, opening, run, all_ended, whole_run, run_order}
 use Rattle.parallel_evaluation.specs.Turns.{IsWorkerAt, AreWorkers, state_of, board}
 use Rattle.parallel_evaluation.proofs.Lists.{passes_counted}
 

@@ -1,8 +1,6 @@
 -- Runs of turns on the board.
-use Rattle.std.proofs.Common.{◌≡◌, ◌≢◌, ℕ, zero, suc, ◌+◌, ◌-◌, ◌*◌, ◌<◌, ◌≤◌, Bool, true, false, cond, Option, Some, None, List, [], ◌∷◌, ◌++◌, append-nil, map, drop, length, get_or, sym, refl, ap, ◌∙◌, subst, arith}
+use Rattle.std.proofs.Common.{◌≡◌, ℕ, zero, suc, ◌+◌, ◌-◌, ◌*◌, ◌<◌, ◌≤◌, false, Option, Some, None, List, [], ◌∷◌, drop, length, get_or, sym, refl, ap, ◌∙◌, subst, arith}
 use Rattle.std.proofs.lemmas.List.{drop_more}
-use mathlib.Core.Option.{some}
-use lib.ListN.{get_elem?}
 use Rattle.claim_core.specs.declared.event.Event.{Event}
 use Rattle.claim_core.specs.declared.view.RoundWords.{RoundWords}
 use Rattle.claim_core.specs.Rule.{Setup}
@@ -13,9 +11,8 @@ use Rattle.speculative_eval.specs.declared.step.Step.{Step}
 use Rattle.speculative_eval.specs.declared.step.Step.TheVariants.{Did, Finished}
 use Rattle.speculative_eval.specs.Workers.{WorkerSeen}
 use Rattle.speculative_eval.specs.Steps.{event_in}
-use Rattle.parallel_evaluation.specs.declared.trace.Traced.{Traced}
-use Rattle.parallel_evaluation.specs.Order.{Board, traced, action_at, turned, run, unless_finished, to_end, is_stopped, ended, all_ended}
-use Rattle.parallel_evaluation.specs.Turns.{AreWorkers, board, steps_at, IsTurnOn, HasEndedAt, HaveEnded, OthersStay}
+use Rattle.parallel_evaluation.specs.Order.{Board, action_at, turned, run, unless_finished, to_end, is_stopped, ended, all_ended}
+use Rattle.parallel_evaluation.specs.Turns.{AreWorkers, steps_at, IsTurnOn, HasEndedAt, HaveEnded, OthersStay}
 use Rattle.parallel_evaluation.proofs.Turning.{at_or, steps_there, few_of}
 
 -- one turn of an order

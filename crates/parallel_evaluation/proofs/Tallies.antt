@@ -9,7 +9,7 @@ use mathlib.Core.Option.{some}
 use lib.ListN.{get_elem?}
 use Rattle.cell_words.specs.declared.cell_word.CellWord.{CellWord}
 use Rattle.cell_words.specs.declared.cell_word.CellWord.TheVariants.{Stale, Claimed, Done}
-use Rattle.claim_core.specs.Rule.{total, is, is_done, claimer_is, publisher_is, Each, WorkersBelow}
+use Rattle.claim_core.specs.Rule.{total, is, is_done, claimer_is, publisher_is, Each}
 use Rattle.claim_core.specs.Table.{count_from}
 use Rattle.claim_core.proofs.Totals.{total-append}
 use Rattle.parallel_evaluation.specs.Summaries.{counts}

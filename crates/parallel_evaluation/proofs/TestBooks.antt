@@ -1,5 +1,5 @@
 -- The formula cells of a book of the tests.
-use Rattle.std.proofs.Common.{◌≡◌, ℕ, zero, suc, ◌+◌, ◌<◌, ◌≤◌, inl, inr, ⊎_elim, Bool, true, false, cond, Option, Some, None, option_map, IsSome, is_some, List, [], ◌∷◌, ◌++◌, append_assoc, map, length, get_or, take, drop, refl, sym, ap, ◌∙◌, subst, arith}
+use Rattle.std.proofs.Common.{◌≡◌, ℕ, zero, suc, ◌+◌, ◌<◌, ◌≤◌, inl, inr, ⊎_elim, Bool, true, false, cond, Option, Some, None, option_map, is_some, List, [], ◌∷◌, ◌++◌, append_assoc, length, get_or, take, drop, refl, sym, ap, ◌∙◌, subst, arith}
 use Rattle.std.specs.Prelude.{flat_map}
 use Rattle.std.specs.List.{filter}
 use Rattle.std.proofs.lemmas.List.{length-take-le, take_more}
@@ -7,14 +7,14 @@ use Rattle.std.proofs.Math.Seq.{drop-cons}
 use Rattle.cell_values.specs.declared.address.Addr.{Addr}
 use Rattle.cell_values.specs.declared.values.Shown.{Shown}
 use Rattle.cell_values.specs.declared.TheConstants.{MAX_BOOK_CELLS}
-use Rattle.cell_values.specs.Addresses.{same_addr, IsBefore}
+use Rattle.cell_values.specs.Addresses.{same_addr}
 use Rattle.cell_values.specs.Areas.{walk}
 use Rattle.cell_values.specs.Order.{InOrder, IsAfterAll, addresses, entry_at}
 use Rattle.cell_values.proofs.Order.{same_addr-refl, same_addr-true}
 use Rattle.formula_trees.specs.Expr.{Expr}
 use Rattle.formula_trees.specs.Mentions.{mentions, areas}
 use Rattle.shared_expressions.proofs.Named.{mentions_are_areas}
-use Rattle.demand_spec.specs.Book.{Book, Content, formula_of, formula_at, shown}
+use Rattle.demand_spec.specs.Book.{Content, formula_of, formula_at, shown}
 use Rattle.demand_spec.specs.declared.Cell.{Cell}
 use Rattle.demand_spec.specs.Laws.{In}
 use Rattle.demand_spec.specs.Listed.{content_of}
@@ -23,8 +23,6 @@ use Rattle.demand_spec.proofs.Spread.{in_filter, filter_in, filter_order}
 use Rattle.shared_expressions.specs.declared.ExprId.{ExprId}
 use Rattle.shared_expressions.specs.Trees.{tree_at}
 use Rattle.workbook_core.specs.Books.{SharedBook, IsWorkbook, IsCell}
-use Rattle.claim_core.specs.Pending.{IsPending}
-use Rattle.demand_stack.specs.StackSeen.{AreStored}
 use Rattle.parallel_evaluation.specs.Workers.{ArePending}
 use Rattle.parallel_evaluation.specs.TestBooks.{holds_formula, AreFormulaCells, MentionsNone, AreAlone}
 

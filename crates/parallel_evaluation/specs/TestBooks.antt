@@ -1,5 +1,5 @@
 -- What the tests say of the formula cells of a book.
-use Rattle.std.specs.Prelude.{◌≡◌, Bool, Some, is_some, List, [], ◌∷◌}
+use Rattle.std.specs.Prelude.{◌≡◌, Bool, Some, is_some, List, []}
 use Rattle.std.specs.List.{filter}
 use Rattle.cell_values.specs.declared.address.Addr.{Addr}
 use Rattle.cell_values.specs.declared.values.Shown.{Shown}

@@ -1,5 +1,5 @@
 -- Workers that step in a given order, and the board that tells how far they are.
-use Rattle.std.specs.Prelude.{◌≡◌, ◌≢◌, ℕ, ◌+◌, ◌<◌, true, false, List, ◌++◌, length, map}
+use Rattle.std.specs.Prelude.{◌≡◌, ◌≢◌, ℕ, ◌<◌, true, false, List, length, map}
 use mathlib.Core.Option.{some}
 use lib.ListN.{get_elem?}
 use Rattle.claim_core.specs.declared.view.RoundWords.{RoundWords}
@@ -12,7 +12,7 @@ use Rattle.speculative_eval.specs.declared.step.Step.TheVariants.{Did, Finished}
 use Rattle.speculative_eval.specs.Workers.{WorkerSeen, BelongsTo}
 use Rattle.speculative_eval.specs.Steps.{HasAll, HasFewEvents, event_in}
 use Rattle.parallel_evaluation.specs.declared.trace.Traced.{Traced}
-use Rattle.parallel_evaluation.specs.Order.{Board, job_of, traced, action_at, turned, is_stopped}
+use Rattle.parallel_evaluation.specs.Order.{Board, job_of, action_at, turned, is_stopped}
 
 -- the worker k of the round, which takes no hints
 pub record IsWorkerAt (r : RoundSeen) (k : ℕ) (w : WorkerSeen) : Type 0 where

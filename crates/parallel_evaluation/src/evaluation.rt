@@ -19,6 +19,7 @@ use demand_spec::Results;
 use std::alloc::{AllocError, Global};
 use std::marker::Sync;
 use std::thread::Threads;
+use steal_tasks::deal;
 use workbook_core::Workbook;
 use worker_machine::Pace;
 
@@ -44,8 +45,9 @@ fn run_round<'b, R: Threads + Sync, P: Pace>(
 {
     results.reserve(cells.len())?;
     let mut back = Vec::with_capacity(alloc, workers as usize)?;
+    let ends = deal(alloc, cells.len() as u32, workers)?;
     let (round, passes) = Round::open(alloc, Job::new(book, cells), workers)?;
-    let mut all = hire(alloc, &round, passes, book, cells, stored)?;
+    let mut all = hire(alloc, &round, passes, ends, book, cells, stored)?;
     finish_all(rt, &round, pace, all.as_mut_slice());
     take_all_back(&round, all, cells.len() as u32, &mut back, results);
     Ok(round.close(back))
@@ -54,6 +56,8 @@ fn run_round<'b, R: Threads + Sync, P: Pace>(
 /// Evaluates pending cells of the book in one round, with 1 to 64 workers in threads of their own: `results` gets
 /// what the book shows at each of the cells, in their order. `stored` has the same of the formula cells that
 /// are not pending. `pace` hears of each step of each worker. Where no cell is pending, no round is opened.
+///
+/// The cells are dealt to the workers: each begins with its part, in order, and then steals from the parts of others.
 ///
 /// It fails where memory runs out, before any worker starts; `results` is empty then.
 pub fn evaluate<R: Threads + Sync, P: Pace>(

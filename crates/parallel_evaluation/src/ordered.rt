@@ -10,7 +10,7 @@ ghost use Rattle.parallel_evaluation.specs.Workers.{ArePending};
 ghost use Rattle.parallel_evaluation.specs.Order.{is_stopped, whole_run, run_order};
 
 use crate::counting::summary_of;
-use crate::hiring::hire;
+use crate::hiring::{hire, no_hints};
 use crate::passes::take_back;
 use crate::summary::{Counts, Summary};
 use crate::trace::Traced;
@@ -61,8 +61,9 @@ fn run_round_in_order<'b>(
     results.reserve(cells.len())?;
     let mut back = Vec::with_capacity(alloc, workers as usize)?;
     let mut events = Vec::new(alloc);
+    let hints = no_hints(alloc, workers)?;
     let (round, passes, turn) = Round::open_in_order(alloc, Job::new(book, cells), workers)?;
-    let mut all = hire(alloc, &round, passes, book, cells, stored)?;
+    let mut all = hire(alloc, &round, passes, hints, book, cells, stored)?;
     run_all(
         &round,
         all.as_mut_slice(),

@@ -1,8 +1,8 @@
-use Rattle.std.proofs.Common.{rules, ◌≡◌, ◌+◌, ◌<◌, get_or, length, ap, ◌∙◌, subst, sym, arith}
+use Rattle.std.proofs.Common.{◌≡◌, ◌+◌, ◌<◌, get_or, length, ap, ◌∙◌, subst, sym, arith}
 use Rattle.std.proofs.lemmas.Option.{get_or_from_slice_get, slice_get_within}
 use Rattle.cell_words.specs.declared.cell_word.CellWord.TheVariants.{Done}
 use Rattle.claim_core.specs.Rule.{claimer_is, publisher_is, is_done, WorkersBelow}
-use Rattle.parallel_evaluation.proofs.Tallies.{Counted, start, sized, next, row_room, whole, claimer_small, publisher_small, read_of, done_word}
+use Rattle.parallel_evaluation.proofs.Tallies.{Counted, start, sized, next, row_room, claimer_small, publisher_small, read_of, done_word}
 use Rattle.parallel_evaluation.proofs.counting.count_words.Goals as goal
 
 pub loop-i-init : goal.loop-i-init

@@ -1,4 +1,3 @@
-use Rattle.std.proofs.Common.{◌≡◌}
 use Rattle.claim_core.specs.Rule.{claimer_is, publisher_is}
 use Rattle.parallel_evaluation.proofs.Tallies.{Counted}
 use Rattle.parallel_evaluation.proofs.counting.count_words.Given as goal

@@ -1,7 +1,9 @@
-use Rattle.std.proofs.Common.{rules, ◌≡◌, ◌<◌, ◌≤◌, ℕ, sym, subst, ap, ◌∙◌, length, vec_len, arith}
+use Rattle.std.proofs.Common.{rules, ◌≡◌, ◌-◌, sym, subst, ◌∙◌, length, arith}
 use Rattle.std.specs.List.{All}
 use Rattle.claim_core.specs.Passes.{SeesAllDone}
+use Rattle.speculative_eval.specs.Hinted.{hints_with}
 use Rattle.speculative_eval.specs.Workers.{IsWorkerOf}
+use Rattle.steal_tasks.specs.Ends.{EndSeen}
 use Rattle.parallel_evaluation.specs.Workers.{HasEnded}
 use Rattle.parallel_evaluation.proofs.Lists.{come_back, workers_fresh}
 use Rattle.parallel_evaluation.proofs.evaluation.run_round.Goals as goal
@@ -9,7 +11,7 @@ use Rattle.parallel_evaluation.proofs.evaluation.run_round.Goals as goal
 pub finish_all-requires-after_bounds : goal.finish_all-requires-after_bounds
 finish_all-requires-after_bounds g c κs within =
     let fresh = c.in_ok-round.ensures.passes in
-    subst (All (IsWorkerOf c.in_ok-round.round)) (sym (c.as_mut_slice.ensures.value ∙ c.in_ok-all.ensures.workers)) (workers_fresh c.in_ok-round.round c.in_ok-round.passes.items fresh.0)
+    subst (All (IsWorkerOf c.in_ok-round.round)) (sym (c.as_mut_slice.ensures.value ∙ c.in_ok-all.ensures.workers)) (workers_fresh c.in_ok-round.round (λ (e : EndSeen). hints_with (e.count - e.given) e.last e.over) c.in_ok-round.passes.items c.in_ok-ends.ends.items fresh.0)
 
 pub take_all_back-requires-clause-workers : goal.take_all_back-requires-clause-workers
 take_all_back-requires-clause-workers g c κs =

@@ -1,4 +1,4 @@
-use Rattle.std.proofs.Common.{below_more, ◌<◌, ◌≤◌, length, sym, ◌∙◌, arith}
+use Rattle.std.proofs.Common.{below_more, ◌≤◌, length, sym, ◌∙◌, arith}
 use Rattle.parallel_evaluation.proofs.Stopped.{all_stopped}
 use Rattle.parallel_evaluation.proofs.ordered.first_running.Goals as goal
 

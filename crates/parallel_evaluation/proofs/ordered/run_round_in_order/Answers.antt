@@ -5,7 +5,7 @@ use Rattle.claim_core.specs.Passes.{SeesAllDone}
 use Rattle.speculative_eval.specs.Workers.{WorkerSeen, BelongsTo}
 use Rattle.parallel_evaluation.specs.Order.{run, all_ended}
 use Rattle.parallel_evaluation.specs.Turns.{AreWorkers, HaveEnded, board}
-use Rattle.parallel_evaluation.proofs.Lists.{come_back, but_one}
+use Rattle.parallel_evaluation.proofs.Lists.{come_back, but_one, passes_counted, without_hints}
 use Rattle.parallel_evaluation.proofs.Openings.{workers_begun, whole_begun}
 use Rattle.parallel_evaluation.proofs.Turning.{all_belong, ended_there}
 use Rattle.parallel_evaluation.proofs.ordered.run_round_in_order.Goals as goal
@@ -15,7 +15,8 @@ run_all-requires-clause-workers c =
     let round = c.in_ok-round.round in
     let idle = c.in_ok-round.ensures.passes in
     let same : round.setup.workers ≡ c.args.workers = search rules in
-    let lent = c.as_mut_slice.ensures.value ∙ c.in_ok-all.ensures.workers in
+    let counted = sym c.in_ok-hints.hints.ok.0 ∙ c.in_ok-hints.ensures ∙ (sym same ∙ sym (passes_counted round.setup.workers c.in_ok-round.passes.items (idle.1 ∙ ap (λ n. count_from n 0) (sym same)))) in
+    let lent = c.as_mut_slice.ensures.value ∙ (c.in_ok-all.ensures.workers ∙ without_hints round c.in_ok-round.passes.items c.in_ok-hints.hints.items counted) in
     let size : length c.as_mut_slice.result.now ≡ vec_len c.in_ok-all.all = c.as_mut_slice.ensures.len in
     let count : vec_len c.in_ok-all.all ≡ round.setup.workers = c.in_ok-all.ensures.count in
     let few : c.args.workers ≤ 64 = c.requires.workers.1 in
@@ -63,7 +64,8 @@ returns-clause-trace c =
     let setup : round.setup ≡ record { book = c.args.book.now.book; cells = c.args.cells.now; workers = c.args.workers } =
     (λ i. record { book = book i; cells = cells i; workers = workers i }) in
     let idle = c.in_ok-round.ensures.passes in
-    let begun = c.as_mut_slice.ensures.value ∙ c.in_ok-all.ensures.workers in
+    let counted = sym c.in_ok-hints.hints.ok.0 ∙ c.in_ok-hints.ensures ∙ (sym workers ∙ sym (passes_counted round.setup.workers c.in_ok-round.passes.items (idle.1 ∙ ap (λ n. count_from n 0) (sym workers)))) in
+    let begun = c.as_mut_slice.ensures.value ∙ (c.in_ok-all.ensures.workers ∙ without_hints round c.in_ok-round.passes.items c.in_ok-hints.hints.items counted) in
     let appended : c.append.new.self.items ≡ c.args.trace.now.items ++ c.run_all.new.events.items = search rules in
     let none : c.new-events.result.items ≡ [] = search rules in
     let ran = c.in_ok-run_all.ensures.events

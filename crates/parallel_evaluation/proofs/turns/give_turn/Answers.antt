@@ -1,9 +1,7 @@
-use Rattle.std.proofs.Common.{rules, ◌≡◌, ◌+◌, ◌*◌, ◌<◌, ◌≤◌, ℕ, length, get_or, set, length-set, sym, subst, ap, ◌∙◌, arith}
-use mathlib.Core.Option.{some}
-use lib.ListN.{get_elem?}
+use Rattle.std.proofs.Common.{◌≡◌, ◌+◌, ◌*◌, ◌≤◌, length, get_or, set, length-set, sym, subst, ap, ◌∙◌}
 use Rattle.speculative_eval.specs.Workers.{WorkerSeen}
 use Rattle.speculative_eval.specs.Steps.{steps_in}
-use Rattle.parallel_evaluation.specs.Turns.{IsWorkerAt, steps_of, steps_at}
+use Rattle.parallel_evaluation.specs.Turns.{steps_of, steps_at}
 use Rattle.parallel_evaluation.proofs.Turning.{at_or, at_others, turn_made, still_workers, stays_at, few_of, ends_at, steps_there, steps_set}
 use Rattle.parallel_evaluation.proofs.turns.give_turn.Goals as goal
 

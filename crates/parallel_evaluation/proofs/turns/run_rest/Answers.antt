@@ -1,7 +1,6 @@
-use Rattle.std.proofs.Common.{rules, ◌≡◌, ◌<◌, ℕ, length, sym, ap, ◌∙◌, arith}
-use Rattle.parallel_evaluation.specs.Order.{all_ended}
+use Rattle.std.proofs.Common.{rules, ◌<◌, length, ◌∙◌}
 use Rattle.parallel_evaluation.specs.Turns.{board}
-use Rattle.parallel_evaluation.proofs.Runs.{one_ended, none_left, more_ended}
+use Rattle.parallel_evaluation.proofs.Runs.{one_ended, more_ended}
 use Rattle.parallel_evaluation.proofs.turns.run_rest.Goals as goal
 
 pub loop-by-preserved : goal.loop-by-preserved

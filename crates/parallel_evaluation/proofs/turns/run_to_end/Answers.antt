@@ -1,4 +1,4 @@
-use Rattle.std.proofs.Common.{rules, ◌≡◌, ◌+◌, ◌-◌, ◌*◌, ◌<◌, ◌≤◌, ◌++◌, List, ℕ, suc, length, sym, ap, refl, ◌∙◌, arith}
+use Rattle.std.proofs.Common.{◌≡◌, ◌+◌, ◌-◌, ◌*◌, ◌≤◌, ◌++◌, List, ℕ, suc, length, sym, ap, refl, ◌∙◌, arith}
 use Rattle.speculative_eval.specs.Steps.{event_in, steps_in}
 use Rattle.parallel_evaluation.specs.declared.trace.Traced.{Traced}
 use Rattle.parallel_evaluation.specs.Order.{Board, traced, to_end, most_turns}

@@ -1,6 +1,6 @@
-use Rattle.std.proofs.Common.{rules, ◌≡◌, ◌<◌, ◌++◌, ℕ, length, get_or, sym, ap, ◌∙◌, arith}
+use Rattle.std.proofs.Common.{rules, ◌≡◌, ◌<◌, ◌++◌, ℕ, length, get_or, ap, ◌∙◌}
 use Rattle.speculative_eval.specs.Steps.{event_in}
-use Rattle.parallel_evaluation.specs.Order.{traced, turned}
+use Rattle.parallel_evaluation.specs.Order.{traced}
 use Rattle.parallel_evaluation.specs.Turns.{board}
 use Rattle.parallel_evaluation.proofs.Runs.{run_next}
 use Rattle.parallel_evaluation.proofs.turns.run_turns.Goals as goal
