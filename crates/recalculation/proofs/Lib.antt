@@ -8,5 +8,6 @@ pub mod Linked
 pub mod Walked
 pub mod Followed
 pub mod Storing
+pub mod Marked
 pub mod Ready
 pub mod PlainBooks

@@ -277,6 +277,17 @@ fn an_edit_of_many_cells_asks_what_reads_it(rt: HostRuntime) -> Result<(), Fail>
 /// How often a worker looks for the other one.
 const LOOKS: u32 = 1_000_000;
 
+/// Waits for a while until the number is so much. Gives whether it came to that.
+fn comes_to(number: &AtomicU64, least: u64) -> bool {
+    for _ in 0..LOOKS {
+        if number.load(Ordering::SeqCst) >= least {
+            return true;
+        }
+        yield_now();
+    }
+    false
+}
+
 /// Holds each of two workers before its first step until the other one has come to its first step, and notes where one
 /// looked for the other in vain.
 #[derive(Drop)]
@@ -297,16 +308,9 @@ impl Gate {
     }
 
     fn hold(&self, own: &AtomicU64, other: &AtomicU64) {
-        if own.swap(1, Ordering::SeqCst) == 1 {
-            return;
+        if own.swap(1, Ordering::SeqCst) == 0 && !comes_to(other, 1) {
+            self.late.store(1, Ordering::SeqCst);
         }
-        for _ in 0..LOOKS {
-            if other.load(Ordering::SeqCst) == 1 {
-                return;
-            }
-            yield_now();
-        }
-        self.late.store(1, Ordering::SeqCst);
     }
 
     /// Both workers have come, and neither looked for the other in vain.
@@ -338,6 +342,84 @@ fn two_workers_meet(rt: HostRuntime) -> Result<(), Fail> {
     let gate = Gate::new();
     computed_calc(&rt, rt.alloc(), TWO_VALUES, 2, &gate, 2)?;
     gate.saw_both(&rt);
+    Ok(())
+}
+
+/// Holds worker 0 before its first step until worker 1 has come to its own, and that one until worker 0 has come to
+/// its fourth look. Notes what worker 0 does between its third look and its fourth, and where one waited in vain.
+#[derive(Drop)]
+struct Theft {
+    one: AtomicU64,
+    looks: AtomicU64,
+    published: AtomicU64,
+    late: AtomicU64,
+}
+
+impl Theft {
+    /// No worker has come yet.
+    fn new() -> Theft {
+        Theft {
+            one: AtomicU64::new(0),
+            looks: AtomicU64::new(0),
+            published: AtomicU64::new(0),
+            late: AtomicU64::new(0),
+        }
+    }
+
+    fn wait(&self, number: &AtomicU64, least: u64) {
+        if !comes_to(number, least) {
+            self.late.store(1, Ordering::SeqCst);
+        }
+    }
+
+    fn zero_before(&self, kind: Kind) {
+        match kind {
+            Kind::Look => {
+                if self.looks.fetch_add(1, Ordering::SeqCst) == 0 {
+                    self.wait(&self.one, 1);
+                }
+            }
+            Kind::Publish => {
+                if self.looks.load(Ordering::SeqCst) == 3 {
+                    self.published.store(1, Ordering::SeqCst);
+                }
+            }
+            _ => {}
+        }
+    }
+
+    /// Nobody waited in vain, and worker 0 published the third cell that it looked at before it looked at a fourth.
+    fn saw_it(&self, rt: &impl Abort) {
+        let published = self.published.load(Ordering::SeqCst);
+        let late = self.late.load(Ordering::SeqCst);
+        assert!(rt; published == 1 && late == 0);
+    }
+}
+
+impl Pace for Theft {
+    fn before(&self, worker: u8, kind: Kind) {
+        if worker == 0 {
+            self.zero_before(kind);
+        } else if self.one.swap(1, Ordering::SeqCst) == 0 {
+            self.wait(&self.looks, 4);
+        }
+    }
+}
+
+const FOUR_CELLS: &str = "
+    =1 shows Val(Number(1))
+    =1 shows Val(Number(1))
+    =A4 shows Val(Number(1))
+    =1 shows Val(Number(1))
+";
+
+// Two cells are dealt to each worker. While worker 1 has taken its first and no more, worker 0 is done with its own and
+// steals the last cell: in order it would come to the third one first, and find that it needs the last.
+#[test]
+fn a_worker_steals(rt: HostRuntime) -> Result<(), Fail> {
+    let theft = Theft::new();
+    computed_calc(&rt, rt.alloc(), FOUR_CELLS, 2, &theft, 4)?;
+    theft.saw_it(&rt);
     Ok(())
 }
 

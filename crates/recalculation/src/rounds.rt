@@ -28,7 +28,7 @@ impl Progress {
     {
         known(book);
         self.build(book)?;
-        reserve(&mut self.stored, self.stale.cells())?;
+        reserve(self.alloc, &mut self.stored, self.stale.cells())?;
         Ok(())
     }
 

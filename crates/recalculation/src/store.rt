@@ -1,15 +1,16 @@
 //! What is stored for cells.
 
-ghost use Rattle.std.specs.Prelude.{◌≡◌, cond, None, Some, map, OnOk, OnErr};
+ghost use Rattle.std.specs.Prelude.{◌≡◌, cond, None, Some, map, IfOk, OnOk, OnErr};
 ghost use Rattle.cell_values.specs.declared.address.Addr.{Addr as Cell};
 ghost use Rattle.cell_values.specs.Addresses.{same_addr};
 ghost use Rattle.cell_values.specs.Order.{entry_at};
 ghost use Rattle.demand_spec.specs.Book.{shown};
+ghost use Rattle.demand_spec.specs.Laws.{In};
 ghost use Rattle.recalculation.specs.Written.{HasRoomFor, HasResultsOf, OthersStay};
 
 use cell_values::{Addr, Shown};
 use demand_spec::Results;
-use std::alloc::AllocError;
+use std::alloc::{AllocError, Global};
 use workbook_core::Workbook;
 
 // Stores a result. Where something stood there, no memory is taken.
@@ -22,14 +23,34 @@ fn store(stored: &mut Results, at: Addr, shown: Shown) -> Result<(), AllocError>
     Ok(())
 }
 
-/// Stores a mark for each of the cells, so that their results then take no memory.
-pub(crate) fn reserve(stored: &mut Results, cells: &[Addr]) -> Result<(), AllocError>
+// A mark for each of the cells. A map that is made at once takes half the room of one that is filled in order.
+fn marks(alloc: Global, cells: &[Addr]) -> Result<Results, AllocError>
+    ensures room { IfOk result (λ marks. HasRoomFor cells.now marks.entries) }
+    ensures others { IfOk result (λ marks. (q : Cell) → (In q cells.now → ⊥) → entry_at marks.entries q ≡ None) }
+{
+    cells.iter().map(|at| (*at, Shown::ToCycle)).collect(alloc)
+}
+
+// Stores a mark for each of the cells, one after the other.
+fn mark_each(stored: &mut Results, cells: &[Addr]) -> Result<(), AllocError>
     ensures room { OnOk result (HasRoomFor cells.now stored.new.entries) }
     ensures others { OthersStay cells.now stored.old.entries stored.new.entries }
 {
     for i in 0..cells.len() {
         store(stored, cells[i], Shown::ToCycle)?;
     }
+    Ok(())
+}
+
+/// Stores a mark for each of the cells, so that their results then take no memory.
+pub(crate) fn reserve(alloc: Global, stored: &mut Results, cells: &[Addr]) -> Result<(), AllocError>
+    ensures room { OnOk result (HasRoomFor cells.now stored.new.entries) }
+    ensures others { OthersStay cells.now stored.old.entries stored.new.entries }
+{
+    if !stored.is_empty() {
+        return mark_each(stored, cells);
+    }
+    *stored = marks(alloc, cells)?;
     Ok(())
 }
 

@@ -1,7 +1,7 @@
 use Rattle.std.proofs.Common.{get_or, refl}
 use Rattle.cell_values.specs.declared.values.Shown.{Shown}
 use Rattle.recalculation.proofs.Storing.{room_next, others_next, in_list, read_any, no_cell}
-use Rattle.recalculation.proofs.store.reserve.Goals as goal
+use Rattle.recalculation.proofs.store.mark_each.Goals as goal
 
 pub loop-i-preserved : goal.loop-i-preserved
 loop-i-preserved c =
