@@ -1,13 +1,14 @@
 -- The order of two values, turned round.
-use Rattle.std.proofs.Common.{◌≡◌, Bool, true, false, pos, Option, Some, None, [], refl, ap, ◌∙◌, option_map}
+use Rattle.std.proofs.Common.{◌≡◌, ℕ, List, unwrap_or, Bool, true, false, pos, Option, Some, None, [], refl, ap, ◌∙◌, option_map}
 use Rattle.std.specs.Ordering.{ordering_reverse, is_lt, is_gt, is_le, is_ge}
 use Rattle.std.specs.declared.cmp.Ordering.{Ordering}
 use Rattle.std.specs.declared.cmp.Ordering.TheVariants.{Less, Equal, Greater}
 use Rattle.std.proofs.lemmas.Cmp.{int_cmp_total, nat_list_cmp_total}
 use Rattle.cell_values.specs.declared.values.Value.{Value}
 use Rattle.cell_values.specs.Texts.{Texts}
+use Rattle.cell_values.specs.Values.{text_of}
 use Rattle.builtin_functions.specs.Tables.{Class, class, class_order, order, bool_order, same, equals, ordered}
-use Rattle.builtin_functions.specs.Laws.{OrderTurns}
+use Rattle.builtin_functions.specs.Laws.{OrderTurns, TextsCompareByBytes}
 
 bool_turns : (x y : Bool) → bool_order x y ≡ ordering_reverse (bool_order y x)
 bool_turns true true = refl
@@ -41,6 +42,19 @@ classes_turn (Class.Failed d) (Class.Text t) = refl
 classes_turn (Class.Failed d) (Class.Truth q) = refl
 classes_turn (Class.Failed d) Class.Blank = refl
 classes_turn (Class.Failed d) (Class.Failed e) = refl
+
+-- what is a text is compared by its bytes
+text_class : (ts : Texts) (v : Value) (bytes : List ℕ) → text_of ts v ≡ Some bytes → class ts v ≡ Class.Text bytes
+text_class ts (Value.Number n) bytes e = absurd (cc)
+text_class ts (Value.Text t) bytes e = ap (λ o. Class.Text (unwrap_or o [])) e
+text_class ts (Value.Short t) bytes e = ap (λ o. Class.Text (unwrap_or o [])) e
+text_class ts (Value.Bool b) bytes e = absurd (cc)
+text_class ts Value.Blank bytes e = absurd (cc)
+text_class ts (Value.Error c) bytes e = absurd (cc)
+
+pub texts_by_bytes : TextsCompareByBytes
+unfolding order
+texts_by_bytes ts a b xs ys e f = λ i. class_order (text_class ts a xs e i) (text_class ts b ys f i)
 
 pub order_turns : (ts : Texts) (a b : Value) → order ts a b ≡ option_map ordering_reverse (order ts b a)
 unfolding order

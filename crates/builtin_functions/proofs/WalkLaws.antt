@@ -51,6 +51,8 @@ through k R none more t w (v ∷ rest) e = step v.0 v.1 (λ u. through k R none 
     step (Value.Error c) in_range h e = absurd (cc)
     step (Value.Text s) true h e = h t e
     step (Value.Text s) false h e = h t (passed k (λ u. taken_all k u rest) e)
+    step (Value.Short s) true h e = h t e
+    step (Value.Short s) false h e = h t (passed k (λ u. taken_all k u rest) e)
     step (Value.Bool b) true h e = h t e
     step (Value.Bool b) false h e = h t (passed k (λ u. taken_all k u rest) e)
 
@@ -91,6 +93,7 @@ numbers_in-append (v ∷ xs) ys = one v.0 (numbers_in-append xs ys)
     one (Value.Number n) e = ap (λ ns. n ∷ ns) e
     one Value.Blank e = e
     one (Value.Text s) e = e
+    one (Value.Short s) e = e
     one (Value.Bool b) e = e
     one (Value.Error c) e = e
 

@@ -46,6 +46,8 @@ taken k t in_range (Value.Number n) = counted k t n
 taken k t in_range Value.Blank = Ok t
 taken k t true (Value.Text s) = Ok t
 taken k t false (Value.Text s) = stops k t
+taken k t true (Value.Short s) = Ok t
+taken k t false (Value.Short s) = stops k t
 taken k t true (Value.Bool b) = Ok t
 taken k t false (Value.Bool b) = stops k t
 

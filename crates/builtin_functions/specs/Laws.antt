@@ -1,16 +1,24 @@
 -- Laws of the tables and of the walks.
-use Rattle.std.specs.Prelude.{◌≡◌, ◌≢◌, ℕ, ◌<◌, Bool, ℤ, pos, ◌+ℤ◌, ◌*ℤ◌, ◌≤ℤ◌, ◌<ℤ◌, unsigned_abs, IsTrue, None, Ok, MatchOption, List, [], ◌∷◌, ◌++◌, map, take, length, All, Contains}
+use Rattle.std.specs.Prelude.{◌≡◌, ◌≢◌, ℕ, ◌<◌, Bool, ℤ, pos, ◌+ℤ◌, ◌*ℤ◌, ◌≤ℤ◌, ◌<ℤ◌, unsigned_abs, IsTrue, Some, None, Ok, MatchOption, List, [], ◌∷◌, ◌++◌, map, take, length, All, Contains}
+use Rattle.std.specs.Ordering.{nat_cmp}
+use Rattle.std.specs.Cmp.Lexicographic.{slice_cmp}
 use Rattle.cell_values.specs.declared.values.Value.{Value}
 use Rattle.cell_values.specs.Numbers.{fits}
 use Rattle.cell_values.specs.Texts.{Texts}
+use Rattle.cell_values.specs.Values.{text_of}
 use Rattle.builtin_functions.specs.declared.operators.Op2.{Op2}
 use Rattle.builtin_functions.specs.declared.folds.FoldKind.{FoldKind}
-use Rattle.builtin_functions.specs.Tables.{number, quotient, modulo, same, table}
+use Rattle.builtin_functions.specs.Tables.{number, quotient, modulo, order, same, table}
 use Rattle.builtin_functions.specs.Folds.{Total, so_far, taken_all, and_then_take, fold_value}
 
 -- `=` does not tell its two sides apart
 abbrev pub SameIsSymmetric : Type 0
 SameIsSymmetric = (ts : Texts) (a b : Value) → same ts a b ≡ same ts b a
+
+-- two texts compare by their bytes, of whichever kind each is
+abbrev pub TextsCompareByBytes : Type 0
+TextsCompareByBytes = (ts : Texts) (a b : Value) (xs ys : List ℕ) → text_of ts a ≡ Some xs → text_of ts b ≡ Some ys
+    → order ts a b ≡ Some (slice_cmp nat_cmp xs ys)
 
 -- a < b is b > a, and a <= b is b >= a
 pub record OrderTurns (ts : Texts) (a b : Value) : Type 0 where
@@ -43,6 +51,7 @@ QuotientIsTruncated = (x y : ℤ) → y ≢ pos 0 → (q : ℤ) × (r : ℤ) × 
 abbrev pub and_its_number : Value → List ℤ → List ℤ
 and_its_number (Value.Number n) ns = n ∷ ns
 and_its_number (Value.Text t) ns = ns
+and_its_number (Value.Short t) ns = ns
 and_its_number (Value.Bool b) ns = ns
 and_its_number Value.Blank ns = ns
 and_its_number (Value.Error e) ns = ns

@@ -61,7 +61,7 @@ bool_order true false = Greater
 bool_order false true = Less
 bool_order false false = Equal
 
--- what values are compared by: a text by its bytes
+-- what values are compared by: a text by its bytes, of whichever kind it is
 pub data Class : Type 0 where
   Number : ℤ → Class
   Text : List ℕ → Class
@@ -72,6 +72,7 @@ pub data Class : Type 0 where
 abbrev pub class : Texts → Value → Class
 class ts (Value.Number n) = Class.Number n
 class ts (Value.Text t) = Class.Text (unwrap_or (text_of ts (Value.Text t)) [])
+class ts (Value.Short t) = Class.Text (unwrap_or (text_of ts (Value.Short t)) [])
 class ts (Value.Bool b) = Class.Truth b
 class ts Value.Blank = Class.Blank
 class ts (Value.Error e) = Class.Failed e
@@ -160,4 +161,5 @@ condition (Value.Bool b) = Ok b
 condition (Value.Number n) = Ok (not (is_zero n))
 condition Value.Blank = Ok false
 condition (Value.Text t) = Err Code.Value
+condition (Value.Short t) = Err Code.Value
 condition (Value.Error e) = Err e

@@ -49,7 +49,7 @@ impl Fold {
             Value::Number(n) => self.take_number(n),
             Value::Error(code) => Go::Stop(code),
             Value::Blank => Go::More,
-            Value::Text(_) | Value::Bool(_) => {
+            Value::Text(_) | Value::Short(_) | Value::Bool(_) => {
                 if in_range || self.kind == FoldKind::Count {
                     Go::More
                 } else {

@@ -3,11 +3,17 @@
 ghost use Rattle.cell_values.specs.Texts.{Texts};
 ghost use Rattle.cell_values.specs.declared.values.Value.{Value};
 ghost use Rattle.std.specs.Prelude.{List, Bool};
-ghost use Rattle.builtin_functions.specs.Laws.{SameIsSymmetric, OrderTurns, ModuloIsRemainder, QuotientIsTruncated, WalksJoin, WalkFinds, SumsAdd, SumIsSum};
+ghost use Rattle.builtin_functions.specs.Laws.{SameIsSymmetric, TextsCompareByBytes, OrderTurns, ModuloIsRemainder, QuotientIsTruncated, WalksJoin, WalkFinds, SumsAdd, SumIsSum};
 
 /// `=` does not tell its two sides apart.
 pub fn law_same_is_symmetric()
     ensures { SameIsSymmetric }
+{}
+
+/// Two texts compare by their bytes, of whichever kind each is: a computed text equals a text of the
+/// book with the same bytes.
+pub fn law_texts_compare_by_bytes()
+    ensures { TextsCompareByBytes }
 {}
 
 /// `a < b` is `b > a`, and `a <= b` is `b >= a`, also where the two have no order.

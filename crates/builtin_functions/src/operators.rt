@@ -82,7 +82,7 @@ pub fn condition(v: Value) -> Result<bool, Code>
         Value::Bool(b) => Ok(b),
         Value::Number(n) => Ok(n != 0),
         Value::Blank => Ok(false),
-        Value::Text(_) => Err(Code::Value),
+        Value::Text(_) | Value::Short(_) => Err(Code::Value),
         Value::Error(code) => Err(code),
     }
 }

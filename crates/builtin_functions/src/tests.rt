@@ -1,10 +1,11 @@
 //! The tables, row by row, with answers worked out by hand.
 
-ghost use Rattle.cell_values.specs.Texts.{Texts, IsTextOf};
-ghost use Rattle.cell_values.specs.Values.{IsValueOf};
+ghost use Rattle.cell_values.specs.Texts.{Texts};
+ghost use Rattle.std.specs.Prelude.{IsFalse};
+ghost use Rattle.cell_values.specs.Values.{IsValueOf, is_error};
 
 use crate::{Fold, FoldKind, Go, Op2, Sign2, binary, condition, same, unary};
-use cell_values::{Code, INT_MAX, INT_MIN, TextId, Texts, Value};
+use cell_values::{Code, INT_MAX, INT_MIN, ShortText, TextId, Texts, Value};
 use std::alloc::{AllocError, Global};
 use std::process::Abort;
 use std::test::Fail;
@@ -42,8 +43,8 @@ const N: Value = Value::Error(Code::Num);
 const E: Value = Value::Error(Code::Ref);
 
 // The value that a letter of a grid stands for: `S` is this text.
-fn value(letter: u8, text: TextId) -> Value
-    ensures { (ts : Texts) → IsTextOf ts text → IsValueOf ts result }
+fn value(letter: u8, text: Value) -> Value
+    ensures { (ts : Texts) → IsValueOf ts text → IsValueOf ts result }
 {
     match letter {
         b'L' => L,
@@ -55,7 +56,7 @@ fn value(letter: u8, text: TextId) -> Value
         b'g' => G1,
         b'G' => G,
         b'B' => B,
-        b'S' => Value::Text(text),
+        b'S' => text,
         b'F' => F,
         b'T' => T,
         b'D' => D,
@@ -68,13 +69,15 @@ fn value(letter: u8, text: TextId) -> Value
 // The operands of a grid: left ones for its rows, right ones for its columns.
 const OPERANDS: &[u8; 8] = b"LGMZBSTE";
 
-fn has_answers(rt: &impl Abort, op: Op2, grid: &[u8; 71], texts: &Texts, text: TextId)
-    requires { IsTextOf texts.now text }
+// Whether the answers are those of the grid, where the rows' text is `left` and the columns' text `right`.
+fn has_answers(rt: &impl Abort, op: Op2, grid: &[u8; 71], texts: &Texts, left: Value, right: Value)
+    requires left { IsValueOf texts.now left }
+    requires right { IsValueOf texts.now right }
 {
     for i in 0..8 {
         for j in 0..8 {
-            let (a, b) = (value(OPERANDS[i], text), value(OPERANDS[j], text));
-            let want = value(grid[i * 9 + j], text);
+            let (a, b) = (value(OPERANDS[i], left), value(OPERANDS[j], right));
+            let want = value(grid[i * 9 + j], left);
             assert_eq!(rt; binary(op, a, b, texts), want, "{op:?} at {a:?} and {b:?}");
         }
     }
@@ -83,7 +86,8 @@ fn has_answers(rt: &impl Abort, op: Op2, grid: &[u8; 71], texts: &Texts, text: T
 #[test]
 fn operators_answer_by_their_tables(rt: HostRuntime) -> Result<(), Fail> {
     let mut texts = Texts::new(rt.alloc());
-    let text = texts.intern("a")?;
+    let text = Value::Text(texts.intern("a")?);
+    let short = Value::Short(ShortText::of(b"a").expect(&rt, "one byte"));
     let grids = [
         (
             Op2::Add,
@@ -135,7 +139,10 @@ fn operators_answer_by_their_tables(rt: HostRuntime) -> Result<(), Fail> {
         ),
     ];
     for (op, grid) in grids {
-        has_answers(&rt, op, grid, &texts, text);
+        has_answers(&rt, op, grid, &texts, text, text);
+        has_answers(&rt, op, grid, &texts, text, short);
+        has_answers(&rt, op, grid, &texts, short, text);
+        has_answers(&rt, op, grid, &texts, short, short);
     }
     Ok(())
 }
@@ -186,18 +193,44 @@ fn signs_and_conditions_answer_by_their_tables(rt: HostRuntime) {
         assert_eq!(rt; unary(Sign2::Abs, v), size, "ABS at {v:?}");
         assert_eq!(rt; condition(v), truth, "a condition at {v:?}");
     }
+    let short = Value::Short(ShortText::of(b"7").expect(&rt, "one byte"));
+    assert_eq!(rt; unary(Sign2::Minus, short), V);
+    assert_eq!(rt; condition(short), Err(Code::Value));
 }
 
-// Whether the first text is below, equal to and above the second one.
-fn comparisons(alloc: Global, x: &str, y: &str) -> Result<(Value, Value, Value), AllocError> {
+// Whether the first value is below, equal to and above the second one.
+fn compared(a: Value, b: Value, texts: &Texts) -> (Value, Value, Value)
+    requires left { IsValueOf texts.now a }
+    requires right { IsValueOf texts.now b }
+    requires left_value { IsFalse (is_error a) }
+    requires right_value { IsFalse (is_error b) }
+{
+    (
+        binary(Op2::Lt, a, b, texts),
+        Value::Bool(same(a, b, texts)),
+        binary(Op2::Gt, a, b, texts),
+    )
+}
+
+// The same of two texts, if it is the same of whichever kind each is.
+fn comparisons(
+    alloc: Global,
+    x: &str,
+    y: &str,
+) -> Result<Option<(Value, Value, Value)>, AllocError> {
     let mut texts = Texts::new(alloc);
     let a = Value::Text(texts.intern(x)?);
     let b = Value::Text(texts.intern(y)?);
-    Ok((
-        binary(Op2::Lt, a, b, &texts),
-        Value::Bool(same(a, b, &texts)),
-        binary(Op2::Gt, a, b, &texts),
-    ))
+    let found = compared(a, b, &texts);
+    match (ShortText::of(x.as_bytes()), ShortText::of(y.as_bytes())) {
+        (Some(s), Some(t)) => {
+            let alike = compared(Value::Short(s), b, &texts) == found
+                && compared(a, Value::Short(t), &texts) == found
+                && compared(Value::Short(s), Value::Short(t), &texts) == found;
+            Ok(if alike { Some(found) } else { None })
+        }
+        _ => Ok(None),
+    }
 }
 
 #[test]
@@ -212,11 +245,14 @@ fn texts_are_ordered_by_bytes(rt: HostRuntime) -> Result<(), Fail> {
         ("ab", "ab", (F, T, F)),
     ];
     for (x, y, want) in rows {
-        assert_eq!(rt; comparisons(rt.alloc(), x, y)?, want, "{x:?} and {y:?}");
+        let found = comparisons(rt.alloc(), x, y)?;
+        assert_eq!(rt; found, Some(want), "{x:?} and {y:?}");
     }
     let mut texts = Texts::new(rt.alloc());
     let empty = Value::Text(texts.intern("")?);
     assert!(rt; same(B, empty, &texts));
+    let short = ShortText::of(b"").expect(&rt, "no byte");
+    assert!(rt; same(Value::Short(short), B, &texts));
     assert!(rt; same(F, B, &texts));
     assert_eq!(rt; binary(Op2::Add, D, E, &texts), D);
     assert_eq!(rt; binary(Op2::Eq, E, D, &texts), E);
@@ -268,5 +304,8 @@ fn folds_answer_by_their_table(rt: HostRuntime) {
     let mut fold = Fold::new(FoldKind::Sum);
     assert_eq!(rt; fold.take(G, false), Go::More);
     assert_eq!(rt; fold.take(P, true), Go::Stop(Code::Num));
+    let short = Value::Short(ShortText::of(b"7").expect(&rt, "one byte"));
+    assert_eq!(rt; fold.take(short, true), Go::More);
+    assert_eq!(rt; fold.take(short, false), Go::Stop(Code::Value));
     assert_eq!(rt; fold.end(), G);
 }

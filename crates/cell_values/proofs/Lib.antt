@@ -7,3 +7,4 @@ pub mod NamesSoFar
 pub mod Naming
 pub mod Order
 pub mod Walking
+pub mod Shorts

@@ -2,6 +2,7 @@ pub mod Numbers
 pub mod Addresses
 pub mod Areas
 pub mod Texts
+pub mod ShortTexts
 pub mod CellText
 pub mod Interned
 pub mod ShownText

@@ -5,6 +5,7 @@ use Rattle.cell_values.specs.declared.values.Code.{Code}
 use Rattle.cell_values.specs.declared.values.Value.{Value}
 use Rattle.cell_values.specs.declared.values.Shown.{Shown}
 use Rattle.cell_values.specs.Texts.{Texts, text_at}
+use Rattle.cell_values.specs.ShortTexts.{short_bytes}
 
 -- the decimal digits, with `-` in front where the number is negative
 abbrev pub int_text : ℤ → List ℕ
@@ -24,6 +25,7 @@ code_text Code.Na = codes "#N/A"
 abbrev pub value_text : Texts → Value → List ℕ
 value_text ts (Value.Number n) = int_text n
 value_text ts (Value.Text t) = text_at ts t
+value_text ts (Value.Short t) = short_bytes t
 value_text ts (Value.Bool b) = bool_text b
 value_text ts Value.Blank = []
 value_text ts (Value.Error c) = code_text c

@@ -5,12 +5,14 @@ pub mod address;
 pub mod fields;
 pub mod interned;
 pub mod names;
+pub mod short;
 pub mod values;
 
 pub use address::{Addr, Area, column_text};
 pub use fields::{FieldText, Raw};
 pub use interned::{TextId, Texts};
 pub use names::{NameFault, SheetNames, is_plain_name};
+pub use short::ShortText;
 pub use values::{Code, Shown, Value};
 
 /// A whole number of the formula language, of 128 bits.
@@ -33,6 +35,9 @@ pub const MAX_RANGE_CELLS: u32 = 65_536;
 
 /// The most cells of a book that are not empty, all sheets together.
 pub const MAX_BOOK_CELLS: u32 = 200_000;
+
+/// The most bytes of a text that a value has in itself.
+pub const MAX_SHORT_BYTES: usize = 48;
 
 #[cfg(test)]
 mod tests;

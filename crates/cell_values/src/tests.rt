@@ -1,6 +1,6 @@
 //! What the contracts leave open: that calls succeed with ample memory, and rows worked out by hand.
 
-use crate::{Addr, Area, FieldText, INT_MIN, Raw, SheetNames, Shown, Texts, Value};
+use crate::{Addr, Area, FieldText, INT_MIN, Raw, SheetNames, ShortText, Shown, Texts, Value};
 use std::test::Fail;
 
 #[test]
@@ -83,5 +83,53 @@ fn walks_areas(rt: HostRuntime) -> Result<(), Fail> {
     assert_eq!(rt; area.nth(5), corner(4, 4));
     assert!(rt; area.holds(corner(5, 4)) && !area.holds(corner(6, 4)));
     assert_eq!(rt; Area::of(corner(5, 2)).size(), 1);
+    Ok(())
+}
+
+// Whether these bytes make a short text, and the text is then this one.
+fn makes(bytes: &[u8], text: Option<&str>) -> bool {
+    match (ShortText::of(bytes), text) {
+        (Some(short), Some(text)) => short.as_str() == text && short.len() as usize == text.len(),
+        (None, None) => true,
+        _ => false,
+    }
+}
+
+#[test]
+fn makes_short_texts(rt: HostRuntime) {
+    let most = "ééééééééééééééééééééééé12";
+    let over = "ééééééééééééééééééééééé123";
+    assert!(rt; makes(b"", Some("")));
+    assert!(rt; makes(most.as_bytes(), Some(most)));
+    assert!(rt; makes(over.as_bytes(), None));
+    assert!(rt; makes(&over.as_bytes()[..47], Some("ééééééééééééééééééééééé1")));
+    assert!(rt; makes(&over.as_bytes()[..45], None));
+    assert!(rt; makes(b"\xff", None));
+}
+
+#[test]
+fn reads_padded_texts(rt: HostRuntime) {
+    let text = ShortText::of(b"ab").expect(&rt, "two bytes");
+    let mut bytes = [0; 48];
+    bytes[0] = b'a';
+    bytes[1] = b'b';
+    assert!(rt; text.padded() == &bytes);
+    assert!(rt; ShortText::from_padded(2, &bytes) == Some(text));
+    assert!(rt; ShortText::from_padded(1, &bytes).is_none());
+    assert!(rt; ShortText::from_padded(3, &bytes) == ShortText::of(b"ab\0"));
+    assert!(rt; ShortText::from_padded(49, &bytes).is_none());
+    bytes[47] = 1;
+    assert!(rt; ShortText::from_padded(2, &bytes).is_none());
+}
+
+#[test]
+fn shows_short_texts(rt: HostRuntime) -> Result<(), Fail> {
+    let alloc = rt.alloc();
+    let texts = Texts::new(alloc);
+    let value = Value::Short(ShortText::of("hé".as_bytes()).expect(&rt, "three bytes"));
+    assert_eq!(rt; value.show_text(alloc, &texts)?.as_str(), "hé");
+    assert!(rt; value.as_text(&texts) == Some("hé"));
+    assert!(rt; Value::Blank.as_text(&texts).is_none());
+    assert!(rt; value.as_number().is_none() && !value.is_error());
     Ok(())
 }

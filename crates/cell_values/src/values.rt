@@ -1,8 +1,8 @@
 //! What formulas compute with, and what a cell shows.
 
-ghost use Rattle.std.specs.Prelude.{◌≡◌, IfOk, string_bytes};
+ghost use Rattle.std.specs.Prelude.{◌≡◌, IfOk, IfNone, IfSome, None, Some, string_bytes};
 
-use crate::{Int, TextId, Texts};
+use crate::{Int, ShortText, TextId, Texts};
 use std::alloc::{AllocError, Global};
 use std::fmt;
 
@@ -25,7 +25,10 @@ pub enum Code {
 #[derive(Clone, Copy, Debug, PartialEq, Eq)]
 pub enum Value {
     Number(Int),
+    /// A text of the book.
     Text(TextId),
+    /// A text that was computed, with its bytes.
+    Short(ShortText),
     Bool(bool),
     Blank,
     Error(Code),
@@ -67,7 +70,7 @@ impl fmt::Display for Code {
 
 impl Value {
     ghost use Rattle.cell_values.specs.ShownText.{value_text};
-    ghost use Rattle.cell_values.specs.Values.{as_number, is_error, IsValueOf};
+    ghost use Rattle.cell_values.specs.Values.{as_number, is_error, text_of, IsValueOf};
 
     /// Whether it is an error.
     pub fn is_error(&self) -> bool
@@ -83,7 +86,20 @@ impl Value {
         match self {
             Value::Number(number) => Some(*number),
             Value::Blank => Some(0),
-            Value::Text(_) | Value::Bool(_) | Value::Error(_) => None,
+            Value::Text(_) | Value::Short(_) | Value::Bool(_) | Value::Error(_) => None,
+        }
+    }
+
+    /// The text that it is, of either kind. Other values are none.
+    pub fn as_text<'a>(&'a self, texts: &'a Texts) -> Option<&'a str>
+        requires { IsValueOf texts.now self.now }
+        ensures some { IfSome result (λ text. text_of texts.now self.now ≡ Some text.now) }
+        ensures none { IfNone result (text_of texts.now self.now ≡ None) }
+    {
+        match self {
+            Value::Text(id) => Some(texts.get(*id)),
+            Value::Short(text) => Some(text.as_str()),
+            Value::Number(_) | Value::Bool(_) | Value::Blank | Value::Error(_) => None,
         }
     }
 
@@ -95,6 +111,7 @@ impl Value {
         match *self {
             Value::Number(number) => format!(in alloc; "{number}"),
             Value::Text(id) => String::from_str(alloc, texts.get(id)),
+            Value::Short(text) => String::from_str(alloc, text.as_str()),
             Value::Bool(true) => String::from_str(alloc, "TRUE"),
             Value::Bool(false) => String::from_str(alloc, "FALSE"),
             Value::Blank => Ok(String::new(alloc)),

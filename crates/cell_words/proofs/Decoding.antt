@@ -4,7 +4,7 @@ use Rattle.std.proofs.Math.Facts.{to_z-of_z}
 use Rattle.std.proofs.lemmas.Bool.{eqb-true, ltb-true, ltb-false, lt-ltb}
 use Rattle.std.proofs.lemmas.Bool.Decides.{nat_tests}
 use Rattle.std.proofs.lemmas.Int.{of_z-to_z}
-use Rattle.std.proofs.lemmas.List.{take-append-drop, length-take-le, length-drop, append-nil}
+use Rattle.std.proofs.lemmas.List.{take-append-drop, length-take-le, length-drop}
 use Rattle.std.specs.Option.{option_map}
 use mir.Syntax.{w128}
 use mir.Val.{SFits, to_z, of_z, sel}
@@ -14,7 +14,10 @@ use Rattle.cell_values.specs.declared.values.Value.{Value}
 use Rattle.cell_values.specs.declared.values.Shown.{Shown}
 use Rattle.cell_values.specs.Numbers.{fits}
 use Rattle.cell_words.specs.declared.TheConstants.{WORDS}
-use Rattle.cell_words.specs.Records.{tag_of, stored_words, tag_words, low_word, high_word, number_of, code_number, filled, values_of, are_zero, read_by, shown_read, IsShown, Spells}
+use Rattle.cell_values.specs.declared.short.ShortText.{ShortText}
+use Rattle.cell_words.specs.TextWords.{packed, text_read}
+use Rattle.cell_words.specs.Records.{tag_of, stored_words, tag_words, low_word, high_word, number_of, code_number, filled, values_of, are_zero, read_one, read_by, shown_read, IsShown, Spells}
+use Rattle.cell_words.proofs.Packing.{are_words, read_has_words, words_read_back}
 
 fits_bits : (n : ℤ) → IsTrue (fits n) → SFits w128 n
 fits_bits (pos n) h = record { sfits = grind (arith, nat_tests) }
@@ -32,29 +35,22 @@ zeros_are (suc n) = zeros_are n
 over_zeros : (n : ℕ) (o : Option Shown) → cond (are_zero (replicate n 0)) o None ≡ o
 over_zeros n o = ap (λ b. cond b o None) (zeros_are n)
 
--- what is stored is read back, however many 0 follow
-padded : (s : Shown) (n : ℕ) → IsShown s → shown_read (tag_of s) (stored_words s ++ replicate n 0) ≡ Some s
-unfolding tag_of stored_words tag_words shown_read
-padded (Shown.Val (Value.Number z)) n h = over_zeros n _ ∙ ap (λ z. Some (Shown.Val (Value.Number z))) (number_back z h)
-padded (Shown.Val (Value.Text t)) n h = over_zeros n _
-padded (Shown.Val (Value.Bool true)) n h = over_zeros n _
-padded (Shown.Val (Value.Bool false)) n h = over_zeros n _
-padded (Shown.Val Value.Blank) n h = over_zeros n _
-padded (Shown.Val (Value.Error Code.Div)) n h = over_zeros n _
-padded (Shown.Val (Value.Error Code.Value)) n h = over_zeros n _
-padded (Shown.Val (Value.Error Code.Ref)) n h = over_zeros n _
-padded (Shown.Val (Value.Error Code.Num)) n h = over_zeros n _
-padded (Shown.Val (Value.Error Code.Na)) n h = over_zeros n _
-padded (Shown.Cycle m) n h = over_zeros n _ ∙ ap (λ b. option_map (λ (k : ℕ). Shown.Cycle k) (cond b (Some m) None)) (lt-ltb m (2 ^ 32) h)
-padded Shown.ToCycle n h = over_zeros n _
-
 -- all value words are read back
 pub read_back : (s : Shown) → IsShown s → shown_read (tag_of s) (values_of s) ≡ Some s
-read_back s h = padded s (WORDS - length (stored_words s)) h
-
--- and so are those that are stored
-pub read_stored : (s : Shown) → IsShown s → shown_read (tag_of s) (stored_words s) ≡ Some s
-read_stored s h = ap (shown_read (tag_of s)) (sym (append-nil (stored_words s))) ∙ padded s 0 h
+unfolding tag_of stored_words tag_words shown_read packed
+read_back (Shown.Val (Value.Number z)) h = over_zeros 5 _ ∙ ap (λ z. Some (Shown.Val (Value.Number z))) (number_back z h)
+read_back (Shown.Val (Value.Text t)) h = over_zeros 6 _
+read_back (Shown.Val (Value.Short t)) h = ap (option_map (λ (u : ShortText). Shown.Val (Value.Short u))) (words_read_back t h)
+read_back (Shown.Val (Value.Bool true)) h = over_zeros 6 _
+read_back (Shown.Val (Value.Bool false)) h = over_zeros 6 _
+read_back (Shown.Val Value.Blank) h = over_zeros 6 _
+read_back (Shown.Val (Value.Error Code.Div)) h = over_zeros 6 _
+read_back (Shown.Val (Value.Error Code.Value)) h = over_zeros 6 _
+read_back (Shown.Val (Value.Error Code.Ref)) h = over_zeros 6 _
+read_back (Shown.Val (Value.Error Code.Num)) h = over_zeros 6 _
+read_back (Shown.Val (Value.Error Code.Na)) h = over_zeros 6 _
+read_back (Shown.Cycle m) h = over_zeros 6 _ ∙ ap (λ b. option_map (λ (k : ℕ). Shown.Cycle k) (cond b (Some m) None)) (lt-ltb m (2 ^ 32) h)
+read_back Shown.ToCycle h = over_zeros 6 _
 
 pub spelt_reads : (tag : ℕ) (words : List ℕ) (s : Shown) → Spells tag words s → shown_read tag words ≡ Some s
 spelt_reads tag words s h = (λ i. shown_read (h.tag_word i) (h.value_words i)) ∙ read_back s h.shown
@@ -158,16 +154,23 @@ module _ (tag : ℕ) (words : List ℕ) where
     unfolding tag_of stored_words tag_words
     spells_to_cycle t w = spells_one 7 Shown.ToCycle t refl refl (ap (λ n. n ∷ []) (sym w)) tt
 
+    spells_short : ((i : ℕ) → get_or words i 0 < 2 ^ 64) → tag ≡ 8 → (t : ShortText) → text_read words ≡ Some t → Spells tag words (Shown.Val (Value.Short t))
+    unfolding tag_of stored_words packed
+    spells_short small e t r = let p = read_has_words words t sized (are_words words small) r in record { tag_word = e; value_words = p.same; shown = p.short }
+
+    when_some : (o : Option ShortText) → ((t : ShortText) → o ≡ Some t → Spells tag words (Shown.Val (Value.Short t))) → Reads (option_map (λ (t : ShortText). Shown.Val (Value.Short t)) o)
+    when_some None h = nothing
+    when_some (Some t) h = one _ (h t refl)
+
     on_mapped : {A : Type 0} (f : A → Shown) (b : Bool) (x y : Option A) → (b ≡ true → Reads (option_map f x)) → (b ≡ false → Reads (option_map f y)) → Reads (option_map f (cond b x y))
     on_mapped f true x y h k = h refl
     on_mapped f false x y h k = k refl
 
-    by_read : word < 2 ^ 64 → next < 2 ^ 64 → Reads (read_by tag word next)
-    by_read low high =
+    by_one : word < 2 ^ 64 → Reads (read_one tag word)
+    by_one low =
         let show_bool = λ (b : Bool). Shown.Val (Value.Bool b) in
         let show_error = λ (e : Code). Shown.Val (Value.Error e) in
         let show_cycle = λ (n : ℕ). Shown.Cycle n in
-        on (eqb tag 1) _ _ (λ t. one _ (spells_number (eqb-true tag 1 t) low high)) λ _.
         on (eqb tag 2) _ _ (λ t. one _ (spells_text (eqb-true tag 2 t) low)) λ _.
         on (eqb tag 3) _ _ (λ t.
         on_mapped show_bool (eqb word 0) _ _ (λ e. one _ (spells_bool false (eqb-true tag 3 t) (eqb-true word 0 e))) λ _.
@@ -183,9 +186,15 @@ module _ (tag : ℕ) (words : List ℕ) where
         on (eqb tag 6) _ _ (λ t. on_mapped show_cycle (ltb word (2 ^ 32)) _ _ (λ l. one _ (spells_cycle (eqb-true tag 6 t) (ltb-true word (2 ^ 32) l))) (λ _. nothing)) λ _.
         on (eqb tag 7) _ _ (λ t. on (eqb word 0) _ _ (λ e. one _ (spells_to_cycle (eqb-true tag 7 t) (eqb-true word 0 e))) (λ _. nothing)) (λ _. nothing)
 
+    by_read : ((i : ℕ) → get_or words i 0 < 2 ^ 64) → Reads (read_by tag words)
+    by_read small =
+        on (eqb tag 1) _ _ (λ t. one _ (spells_number (eqb-true tag 1 t) (small 0) (small 1))) λ _.
+        on (eqb tag 8) _ _ (λ t. when_some (text_read words) (spells_short small (eqb-true tag 8 t))) λ _.
+        by_one (small 0)
+
   reads_spelt : length words ≡ WORDS → ((i : ℕ) → get_or words i 0 < 2 ^ 64) → Reads (shown_read tag words)
   unfolding shown_read
-  reads_spelt sized small = on (are_zero (drop (tag_words tag) words)) _ _ (λ rest. by_read sized rest (small 0) (small 1)) (λ _. nothing)
+  reads_spelt sized small = on (are_zero (drop (tag_words tag) words)) _ _ (λ rest. by_read sized rest small) (λ _. nothing)
 
   -- a reading is exact
   pub exact : (o : Option Shown) → o ≡ shown_read tag words → length words ≡ WORDS → ((i : ℕ) → get_or words i 0 < 2 ^ 64) → (s : Shown) → (o ≡ Some s) ↔ Spells tag words s

@@ -4,9 +4,12 @@ ghost use Rattle.std.specs.Prelude.{◌≡◌, ◌↔◌, ◌<◌, ◌≤◌, �
 ghost use Rattle.cell_values.specs.declared.values.Code.{Code};
 ghost use Rattle.cell_values.specs.declared.values.Shown.{Shown};
 ghost use Rattle.cell_values.specs.Numbers.{fits};
-ghost use Rattle.cell_words.specs.Records.{IsShown, Spells, are_zero, bool_of, code_number, code_of, high_word, length_of, low_word, number_of, read_by, record_words, shown_read, tag_of, tag_words, value_of};
+ghost use Rattle.cell_values.specs.Texts.{Texts};
+ghost use Rattle.cell_values.specs.Values.{IsShownOf};
+ghost use Rattle.cell_words.specs.Records.{IsShown, Spells, are_zero, bool_of, code_number, code_of, high_word, length_of, low_word, number_of, read_by, read_one, record_words, shown_read, tag_of, tag_words, value_of};
 
 use crate::WORDS;
+use crate::text_words::{read_text, text_word};
 use cell_values::{Code, Int, Shown, TextId, Value};
 
 const NUMBER: u64 = 1;
@@ -23,8 +26,13 @@ const CYCLE: u64 = 6;
 
 const TO_CYCLE: u64 = 7;
 
+const SHORT_TEXT: u64 = 8;
+
 // How many value words a number has.
 const NUMBER_WORDS: u32 = 2;
+
+// How many value words a short text has.
+const SHORT_TEXT_WORDS: u32 = 7;
 
 // 2^64, from which on the high word of a number stands.
 const HIGH_WORD: u128 = 0x1_0000_0000_0000_0000;
@@ -33,11 +41,12 @@ const HIGH_WORD: u128 = 0x1_0000_0000_0000_0000;
 #[tactic(auto, unfolding(crate::specs::Records::tag_of))]
 pub fn record_tag(shown: Shown) -> u64
     ensures value { result ≡ tag_of shown }
-    ensures shown { IsShown shown }
+    ensures shown { (ts : Texts) → IsShownOf ts shown → IsShown shown }
 {
     match shown {
         Shown::Val(Value::Number(number)) => number_tag(number),
         Shown::Val(Value::Text(text)) => text_tag(text.0),
+        Shown::Val(Value::Short(_)) => SHORT_TEXT,
         Shown::Val(Value::Bool(_)) => BOOL,
         Shown::Val(Value::Blank) => BLANK,
         Shown::Val(Value::Error(_)) => ERROR,
@@ -82,6 +91,7 @@ pub fn record_value(shown: Shown, k: u32) -> u64
         Shown::Val(Value::Number(number)) if k == 0 => low_word(number),
         Shown::Val(Value::Number(number)) => high_word(number),
         Shown::Val(Value::Text(text)) => text.0 as u64,
+        Shown::Val(Value::Short(text)) => text_word(&text, k),
         Shown::Val(Value::Bool(holds)) => u64::from(holds),
         Shown::Val(Value::Blank) | Shown::ToCycle => 0,
         Shown::Val(Value::Error(code)) => code_number(code),
@@ -117,7 +127,7 @@ fn code_number(code: Code) -> u64
 
 /// How many value words of the record of what a cell shows are stored, from the first on. The others
 /// are 0.
-#[tactic(auto, unfolding(crate::specs::Records::tag_of, crate::specs::Records::stored_words, crate::specs::Records::tag_words))]
+#[tactic(auto, unfolding(crate::specs::Records::tag_of, crate::specs::Records::stored_words, crate::specs::Records::tag_words, crate::specs::TextWords::packed))]
 pub fn record_words(shown: Shown) -> u32
     ensures value { result ≡ record_words shown }
     ensures tag { result ≡ tag_words (tag_of shown) }
@@ -125,6 +135,7 @@ pub fn record_words(shown: Shown) -> u32
 {
     match shown {
         Shown::Val(Value::Number(_)) => NUMBER_WORDS,
+        Shown::Val(Value::Short(_)) => SHORT_TEXT_WORDS,
         Shown::Val(Value::Text(_) | Value::Bool(_) | Value::Blank | Value::Error(_)) => 1,
         Shown::Cycle(_) | Shown::ToCycle => 1,
     }
@@ -133,11 +144,15 @@ pub fn record_words(shown: Shown) -> u32
 /// The same number, for a record with this tag.
 #[tactic(auto, unfolding(crate::specs::Records::tag_words))]
 pub fn tag_words(tag: u64) -> u32
-    requires { (1 ≤ tag) × (tag ≤ 7) }
+    requires { (1 ≤ tag) × (tag ≤ 8) }
     ensures value { result ≡ tag_words tag }
     ensures range { (1 ≤ result) × (result ≤ WORDS) }
 {
-    if tag == NUMBER { NUMBER_WORDS } else { 1 }
+    match tag {
+        NUMBER => NUMBER_WORDS,
+        SHORT_TEXT => SHORT_TEXT_WORDS,
+        _ => 1,
+    }
 }
 
 /// What a cell shows whose record has these words. A word that is not stored is handed in as 0. None
@@ -149,27 +164,37 @@ pub fn read_record(tag: u64, words: &[u64; WORDS as usize]) -> Option<Shown>
     read_words(tag, words)
 }
 
-// The same by parts: the words that the tag does not use are 0, and the first two are read.
+// The same by parts: the words that the tag does not use are 0, and the others are read.
 #[tactic(auto, unfolding(crate::specs::Records::shown_read))]
 fn read_words(tag: u64, words: &[u64; WORDS as usize]) -> Option<Shown>
     ensures { result ≡ shown_read tag words.now }
 {
-    if tag < NUMBER || tag > TO_CYCLE {
+    if tag < NUMBER || tag > SHORT_TEXT {
         return None;
     }
     let used = tag_words(tag) as usize;
     if !are_zero(&words[used..]) {
         return None;
     }
-    read_by(tag, words[0], words[1])
+    read_by(tag, words)
 }
 
-// What a record shows by its tag and its first two value words.
-fn read_by(tag: u64, word: u64, next: u64) -> Option<Shown>
-    ensures { result ≡ read_by tag word next }
+// What a record shows by its tag and its value words.
+fn read_by(tag: u64, words: &[u64; WORDS as usize]) -> Option<Shown>
+    ensures { result ≡ read_by tag words.now }
 {
     match tag {
-        NUMBER => Some(Shown::Val(Value::Number(number_of(word, next)))),
+        NUMBER => Some(Shown::Val(Value::Number(number_of(words[0], words[1])))),
+        SHORT_TEXT => Some(Shown::Val(Value::Short(read_text(words)?))),
+        _ => read_one(tag, words[0]),
+    }
+}
+
+// What a record shows whose kind has one value word.
+fn read_one(tag: u64, word: u64) -> Option<Shown>
+    ensures { result ≡ read_one tag word }
+{
+    match tag {
         TEXT => Some(Shown::Val(Value::Text(TextId(word as usize)))),
         BOOL => Some(Shown::Val(Value::Bool(bool_of(word)?))),
         BLANK if word == 0 => Some(Shown::Val(Value::Blank)),

@@ -1,4 +1,4 @@
-use Rattle.std.proofs.Common.{◌≡◌, ◌<◌, ◌*◌, ◌/◌, ◌%◌, arith, sym, subst}
+use Rattle.std.proofs.Common.{◌≡◌, ◌<◌, ◌*◌, ◌/◌, arith, sym, subst}
 use Rattle.cell_values.specs.Areas.{height, width}
 use Rattle.cell_values.proofs.Walking.{row_within, drop_walk_at, length-walk}
 use Rattle.cell_values.proofs.address.Area.nth.Goals as goal
