@@ -2,7 +2,7 @@
 use Rattle.std.proofs.Common.{◌≡◌, ℕ, zero, suc, ◌+◌, ◌≤◌, List, [], ◌∷◌, ◌++◌, Bool, true, false, Ok, Err, Option, Some, None, IsTrue, ◌⊎◌, inl, inr, refl, sym, ap, ◌∙◌, arith, append_assoc, append-nil, nat_le, le-leb}
 use Rattle.std.specs.Prelude.{pos, nat_lt}
 use Rattle.std.proofs.lemmas.Bool.Decides.{nat_tests}
-use Rattle.formula_trees.specs.declared.levels.TheConstants.{COMPARISON_LEVEL, SUM_LEVEL, TERM_LEVEL}
+use Rattle.formula_trees.specs.declared.levels.TheConstants.{COMPARISON_LEVEL, JOIN_LEVEL, SUM_LEVEL, TERM_LEVEL}
 use Rattle.formula_trees.specs.declared.tree.Fun.{Fun}
 use Rattle.formula_trees.specs.declared.tree.Op.{Op}
 use Rattle.formula_trees.specs.declared.tree.Sign.{Sign}
@@ -13,15 +13,34 @@ use Rattle.formula_trees.specs.Sound.{op_level}
 use Rattle.formula_tokens.specs.declared.token.Literal.{Literal}
 use Rattle.formula_tokens.specs.declared.token.Token.{Token}
 use Rattle.formula_tokens.specs.declared.token.Word.{Word}
-use Rattle.formula_grammar.specs.Syntax.{kind_at, are_enough, may_go_on, is_ref_error, is_exact, Target, here, on_sheet, Expression, only_sum, compare, Sums, only_term, add, Term, only_signed, multiply, Signed, plain, signed, Primary, literal, reference, group, call_none, call, Arguments, last, more, Argument, value, cell, area, lone, sign_op, target_spelling, spelling, sums_spelling, term_spelling, signed_spelling, primary_spelling, arguments_spelling, argument_spelling, counted, IsOfKind, Fits, SumsFit, TermFits, SignedFits, PrimaryFits, ArgumentsFit, ArgumentFits}
+use Rattle.formula_grammar.specs.Syntax.{kind_at, are_enough, may_go_on, is_ref_error, is_exact, Target, here, on_sheet, Expression, only_joins, compare, Joins, only_sum, join, Sums, only_term, add, Term, only_signed, multiply, Signed, plain, signed, Primary, literal, reference, group, call_none, call, Arguments, last, more, Argument, value, cell, area, lone, sign_op, target_spelling, spelling, joins_spelling, sums_spelling, term_spelling, signed_spelling, primary_spelling, arguments_spelling, argument_spelling, counted, IsOfKind, Fits, JoinsFit, SumsFit, TermFits, SignedFits, PrimaryFits, ArgumentsFit, ArgumentFits}
 use Rattle.formula_grammar.specs.Steps.{Frame, in_group, in_call, State, operand, operator, named, opened, argument, sheet, corner, colon, ended, finished, Move, if_counted, on_lone, landed, sign_of, on_sign, on_operand, on_right, on_comma, on_end, on_close, on_operator, on_argument, on_sheet_word, on_no_range, on_corner, on_named, on_opened, on_colon, move}
 
-pub level_cases : (op : Op) → (op_level op ≡ COMPARISON_LEVEL) ⊎ (op_level op ≡ SUM_LEVEL) ⊎ (op_level op ≡ TERM_LEVEL)
-level_cases Op.Add = inr (inl refl)
-level_cases Op.Sub = inr (inl refl)
-level_cases Op.Mul = inr (inr refl)
-level_cases Op.Div = inr (inr refl)
-level_cases op = inl refl
+-- an operator is of one of four levels
+abbrev HasLevel : Op → Type 0
+HasLevel op = (op_level op ≡ COMPARISON_LEVEL) ⊎ (op_level op ≡ JOIN_LEVEL) ⊎ (op_level op ≡ SUM_LEVEL) ⊎ (op_level op ≡ TERM_LEVEL)
+
+level_cases : (op : Op) → HasLevel op
+level_cases Op.Add = inr (inr (inl refl))
+level_cases Op.Sub = inr (inr (inl refl))
+level_cases Op.Mul = inr (inr (inr refl))
+level_cases Op.Div = inr (inr (inr refl))
+level_cases Op.Join = inr (inl refl)
+level_cases Op.Eq = inl refl
+level_cases Op.Ne = inl refl
+level_cases Op.Lt = inl refl
+level_cases Op.Le = inl refl
+level_cases Op.Gt = inl refl
+level_cases Op.Ge = inl refl
+
+pub level_within : (op : Op) → (COMPARISON_LEVEL ≤ op_level op) × (op_level op ≤ TERM_LEVEL)
+level_within op = by_level (level_cases op)
+  where
+    by_level : HasLevel op → (COMPARISON_LEVEL ≤ op_level op) × (op_level op ≤ TERM_LEVEL)
+    by_level (inl e) = (omega (arith, e), omega (arith, e))
+    by_level (inr (inl e)) = (omega (arith, e), omega (arith, e))
+    by_level (inr (inr (inl e))) = (omega (arith, e), omega (arith, e))
+    by_level (inr (inr (inr e))) = (omega (arith, e), omega (arith, e))
 
 module _ (strict : Bool) where
   -- what may follow a term in an expression
@@ -107,48 +126,55 @@ module _ (strict : Bool) where
       let r = lift_sums p g s fit.0 in
       (add r.0 op t, (r.1, fit.1, fit.2), ap (λ x. x ++ Token.Operator op ∷ term_spelling t) r.2 ∙ append_assoc p (sums_spelling s) _)
 
-  lift_expression : (p : List Token) → ((s : Sums) → SumsFit strict s → (e : Expression) × Fits strict e × (spelling e ≡ p ++ sums_spelling s))
+  lift_joins : (p : List Token) → ((s : Sums) → SumsFit strict s → (j : Joins) × JoinsFit strict j × (joins_spelling j ≡ p ++ sums_spelling s))
+      → (j : Joins) → JoinsFit strict j → (j' : Joins) × JoinsFit strict j' × (joins_spelling j' ≡ p ++ joins_spelling j)
+  lift_joins p g (only_sum s) fit = g s fit
+  lift_joins p g (join j op s) fit =
+      let r = lift_joins p g j fit.0 in
+      (join r.0 op s, (r.1, fit.1, fit.2), ap (λ x. x ++ Token.Operator op ∷ sums_spelling s) r.2 ∙ append_assoc p (joins_spelling j) _)
+
+  lift_expression : (p : List Token) → ((j : Joins) → JoinsFit strict j → (e : Expression) × Fits strict e × (spelling e ≡ p ++ joins_spelling j))
       → (e : Expression) → Fits strict e → (e' : Expression) × Fits strict e' × (spelling e' ≡ p ++ spelling e)
-  lift_expression p g (only_sum s) fit = g s fit
-  lift_expression p g (compare e op s) fit =
+  lift_expression p g (only_joins j) fit = g j fit
+  lift_expression p g (compare e op j) fit =
       let r = lift_expression p g e fit.0 in
-      (compare r.0 op s, (r.1, fit.1, fit.2), ap (λ x. x ++ Token.Operator op ∷ sums_spelling s) r.2 ∙ append_assoc p (spelling e) _)
+      (compare r.0 op j, (r.1, fit.1, fit.2), ap (λ x. x ++ Token.Operator op ∷ joins_spelling j) r.2 ∙ append_assoc p (spelling e) _)
 
-  lift_signed : (p : List Token) → ((s : Signed) → SignedFits strict s → (t : Term) × TermFits strict t × (term_spelling t ≡ p ++ signed_spelling s))
+  -- the same before an expression, of what is put before its leftmost sum, term or signed part
+  before_sum : (p : List Token) → ((s : Sums) → SumsFit strict s → (j : Joins) × JoinsFit strict j × (joins_spelling j ≡ p ++ sums_spelling s))
       → (e : Expression) → Fits strict e → (e' : Expression) × Fits strict e' × (spelling e' ≡ p ++ spelling e)
-  lift_signed p g = lift_expression p (lift_sums_alone p (lift_term_alone p g))
-    where
-      lift_term_alone : (p : List Token) → ((s : Signed) → SignedFits strict s → (t : Term) × TermFits strict t × (term_spelling t ≡ p ++ signed_spelling s))
-          → (t : Term) → TermFits strict t → (s : Sums) × SumsFit strict s × (sums_spelling s ≡ p ++ term_spelling t)
-      lift_term_alone p g t fit = let r = lift_term p g t fit in (only_term r.0, r.1, r.2)
+  before_sum p g = lift_expression p (λ j fit. let r = lift_joins p g j fit in (only_joins r.0, r.1, r.2))
 
-      lift_sums_alone : (p : List Token) → ((t : Term) → TermFits strict t → (s : Sums) × SumsFit strict s × (sums_spelling s ≡ p ++ term_spelling t))
-          → (s : Sums) → SumsFit strict s → (e : Expression) × Fits strict e × (spelling e ≡ p ++ sums_spelling s)
-      lift_sums_alone p g s fit = let r = lift_sums p g s fit in (only_sum r.0, r.1, r.2)
+  before_term : (p : List Token) → ((t : Term) → TermFits strict t → (s : Sums) × SumsFit strict s × (sums_spelling s ≡ p ++ term_spelling t))
+      → (e : Expression) → Fits strict e → (e' : Expression) × Fits strict e' × (spelling e' ≡ p ++ spelling e)
+  before_term p g = before_sum p (λ s fit. let r = lift_sums p g s fit in (only_sum r.0, r.1, r.2))
+
+  before_signed : (p : List Token) → ((s : Signed) → SignedFits strict s → (t : Term) × TermFits strict t × (term_spelling t ≡ p ++ signed_spelling s))
+      → (e : Expression) → Fits strict e → (e' : Expression) × Fits strict e' × (spelling e' ≡ p ++ spelling e)
+  before_signed p g = before_term p (λ t fit. let r = lift_term p g t fit in (only_term r.0, r.1, r.2))
 
   -- a sign before an expression
   with_sign : (sign : Sign) (e : Expression) → Fits strict e → (e' : Expression) × Fits strict e' × (spelling e' ≡ Token.Operator (sign_op sign) ∷ spelling e)
-  with_sign sign = lift_signed (Token.Operator (sign_op sign) ∷ []) (λ s fit. (only_signed (signed sign s), fit, refl))
+  with_sign sign = before_signed (Token.Operator (sign_op sign) ∷ []) (λ s fit. (only_signed (signed sign s), fit, refl))
+
+  -- a term and an operator
+  abbrev with_operator : Term → Op → List Token
+  with_operator t op = term_spelling t ++ Token.Operator op ∷ []
 
   -- an operator and an expression behind a term
   tail_of : (op : Op) (e : Expression) → Fits strict e → IsTail (Token.Operator op ∷ spelling e)
-  tail_of op e fit t fits = by_level (level_cases op)
+  tail_of op e fit t fits =
+      let r = by_level (level_cases op) in
+      (r.0, r.1, r.2 ∙ append_assoc (term_spelling t) (Token.Operator op ∷ []) (spelling e))
     where
-      by_level : (op_level op ≡ COMPARISON_LEVEL) ⊎ (op_level op ≡ SUM_LEVEL) ⊎ (op_level op ≡ TERM_LEVEL) → (e' : Expression) × Fits strict e' × (spelling e' ≡ term_spelling t ++ Token.Operator op ∷ spelling e)
-      by_level (inl l) =
-          let r = lift_expression (term_spelling t ++ Token.Operator op ∷ []) (λ s f. (compare (only_sum (only_term t)) op s, (fits, l, f), sym (append_assoc (term_spelling t) (Token.Operator op ∷ []) _))) e fit in
-          (r.0, r.1, r.2 ∙ append_assoc (term_spelling t) (Token.Operator op ∷ []) (spelling e))
-      by_level (inr (inl l)) =
-          let g : (s : Sums) → SumsFit strict s → (s' : Sums) × SumsFit strict s' × (sums_spelling s' ≡ (term_spelling t ++ Token.Operator op ∷ []) ++ sums_spelling s) =
-          lift_sums (term_spelling t ++ Token.Operator op ∷ []) (λ u f. (add (only_term t) op u, (fits, l, f), sym (append_assoc (term_spelling t) (Token.Operator op ∷ []) _))) in
-          let r = lift_expression (term_spelling t ++ Token.Operator op ∷ []) (λ s f. let x = g s f in (only_sum x.0, x.1, x.2)) e fit in
-          (r.0, r.1, r.2 ∙ append_assoc (term_spelling t) (Token.Operator op ∷ []) (spelling e))
-      by_level (inr (inr l)) =
-          let r = lift_signed (term_spelling t ++ Token.Operator op ∷ []) (λ s f. (multiply t op s, (fits, l, f), sym (append_assoc (term_spelling t) (Token.Operator op ∷ []) _))) e fit in
-          (r.0, r.1, r.2 ∙ append_assoc (term_spelling t) (Token.Operator op ∷ []) (spelling e))
+      by_level : HasLevel op → (e' : Expression) × Fits strict e' × (spelling e' ≡ with_operator t op ++ spelling e)
+      by_level (inl l) = lift_expression (with_operator t op) (λ j f. (compare (only_joins (only_sum (only_term t))) op j, (fits, l, f), sym (append_assoc (term_spelling t) (Token.Operator op ∷ []) _))) e fit
+      by_level (inr (inl l)) = before_sum (with_operator t op) (λ s f. (join (only_sum (only_term t)) op s, (fits, l, f), sym (append_assoc (term_spelling t) (Token.Operator op ∷ []) _))) e fit
+      by_level (inr (inr (inl l))) = before_term (with_operator t op) (λ u f. (add (only_term t) op u, (fits, l, f), sym (append_assoc (term_spelling t) (Token.Operator op ∷ []) _))) e fit
+      by_level (inr (inr (inr l))) = before_signed (with_operator t op) (λ s f. (multiply t op s, (fits, l, f), sym (append_assoc (term_spelling t) (Token.Operator op ∷ []) _))) e fit
 
   no_tail : IsTail []
-  no_tail t fits = (only_sum (only_term t), fits, sym (append-nil (term_spelling t)))
+  no_tail t fits = (only_joins (only_sum (only_term t)), fits, sym (append-nil (term_spelling t)))
 
   -- a primary, and what may follow it
   operand_by : (p : Primary) → PrimaryFits strict p → (fs : List Frame) (w : List Token) → Followed (Closes fs) w → Operand fs (primary_spelling p ++ w)
@@ -346,6 +372,10 @@ room Fun.Index n e = below_most 3 3 n (omega arith) e
 room Fun.Match n e = below_most 2 3 n (omega arith) e
 room Fun.VLookup n e = below_most 3 4 n (omega arith) e
 room Fun.HLookup n e = below_most 3 4 n (omega arith) e
+room Fun.Left n e = below_most 1 2 n (omega arith) e
+room Fun.Right n e = below_most 1 2 n (omega arith) e
+room Fun.Mid n e = below_most 3 3 n (omega arith) e
+room Fun.Len n e = below_most 1 1 n (omega arith) e
 room f n e = refl
 
 module _ (strict : Bool) where
@@ -354,8 +384,8 @@ module _ (strict : Bool) where
 
   -- an argument of a kind
   some_argument : (k : Kind) → (x : Argument) × IsOfKind k x × ArgumentFits strict x
-  some_argument Plain = (value (only_sum (only_term (only_signed (plain (literal (Literal.Number (pos 0))))))), tt, tt)
-  some_argument Many = (value (only_sum (only_term (only_signed (plain (literal (Literal.Number (pos 0))))))), tt, tt)
+  some_argument Plain = (value (only_joins (only_sum (only_term (only_signed (plain (literal (Literal.Number (pos 0)))))))), tt, tt)
+  some_argument Many = (value (only_joins (only_sum (only_term (only_signed (plain (literal (Literal.Number (pos 0)))))))), tt, tt)
   some_argument Place = (cell (here Word.Unknown), tt, tt)
   some_argument Exact = (lone (Literal.Number (pos 0)), refl, tt)
 

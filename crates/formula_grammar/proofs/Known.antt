@@ -19,7 +19,7 @@ use Rattle.formula_tokens.specs.Words.{begins_word, is_word_byte, leading, behin
 use Rattle.formula_tokens.specs.Lexemes.{Lexeme, Quoted, Other, Cut, Placed, is_blank, is_bad, is_prefix, sign_of, sign_at, sign_cut, literal_from, literal_cut, other_word, plain_word, word_cut, quoted_prefix, first_lexeme, lexemes_at, lexemes}
 use Rattle.formula_tokens.specs.Tokens.{TextIsOf, TextsAreOf, token_of, spot_of, spots_of}
 use Rattle.formula_grammar.specs.Fault.{Reads, tokens_of}
-use Rattle.formula_grammar.specs.Syntax.{Target, here, on_sheet, Expression, only_sum, compare, Sums, only_term, add, Term, only_signed, multiply, Signed, plain, signed, Primary, literal, reference, group, call_none, call, Arguments, last, more, Argument, value, cell, area, lone, target_spelling, spelling, sums_spelling, term_spelling, signed_spelling, primary_spelling, arguments_spelling, argument_spelling, literal_meaning, target_meaning, call_meaning, meaning, sums_meaning, term_meaning, signed_meaning, primary_meaning, arguments_meaning, argument_meaning}
+use Rattle.formula_grammar.specs.Syntax.{Target, here, on_sheet, Expression, only_joins, compare, Joins, only_sum, join, Sums, only_term, add, Term, only_signed, multiply, Signed, plain, signed, Primary, literal, reference, group, call_none, call, Arguments, last, more, Argument, value, cell, area, lone, target_spelling, spelling, joins_spelling, sums_spelling, term_spelling, signed_spelling, primary_spelling, arguments_spelling, argument_spelling, literal_meaning, target_meaning, call_meaning, meaning, joins_meaning, sums_meaning, term_meaning, signed_meaning, primary_meaning, arguments_meaning, argument_meaning}
 
 -- a token's text is one of so many, and its sheet is one of so many
 abbrev pub IsKnown : ℕ → ℕ → Token → Type 0
@@ -63,10 +63,17 @@ of_call m n None es h = (tt, tt)
 
 mutual
   of_expression : (m n : ℕ) (at : Addr) (e : Expression) → AreKnown m n (spelling e) → Knows m n (meaning at e)
-  of_expression m n at (only_sum s) h = of_sums m n at s h
-  of_expression m n at (compare e op s) h =
-      let l = of_expression m n at e (front m n (spelling e) (Token.Operator op ∷ sums_spelling s) h) in
-      let r = of_sums m n at s (back m n (spelling e) (Token.Operator op ∷ sums_spelling s) h).1 in
+  of_expression m n at (only_joins j) h = of_joins m n at j h
+  of_expression m n at (compare e op j) h =
+      let l = of_expression m n at e (front m n (spelling e) (Token.Operator op ∷ joins_spelling j) h) in
+      let r = of_joins m n at j (back m n (spelling e) (Token.Operator op ∷ joins_spelling j) h).1 in
+      ((l.0, r.0), (l.1, r.1))
+
+  of_joins : (m n : ℕ) (at : Addr) (j : Joins) → AreKnown m n (joins_spelling j) → Knows m n (joins_meaning at j)
+  of_joins m n at (only_sum s) h = of_sums m n at s h
+  of_joins m n at (join j op s) h =
+      let l = of_joins m n at j (front m n (joins_spelling j) (Token.Operator op ∷ sums_spelling s) h) in
+      let r = of_sums m n at s (back m n (joins_spelling j) (Token.Operator op ∷ sums_spelling s) h).1 in
       ((l.0, r.0), (l.1, r.1))
 
   of_sums : (m n : ℕ) (at : Addr) (s : Sums) → AreKnown m n (sums_spelling s) → Knows m n (sums_meaning at s)

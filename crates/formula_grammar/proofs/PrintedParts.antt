@@ -56,6 +56,7 @@ op_closes Op.Add rest = refl
 op_closes Op.Sub rest = refl
 op_closes Op.Mul rest = refl
 op_closes Op.Div rest = refl
+op_closes Op.Join rest = refl
 op_closes Op.Eq rest = refl
 op_closes Op.Ne rest = refl
 op_closes Op.Lt rest = refl
@@ -77,6 +78,7 @@ opens_ends Op.Add rest h = ends_always rest
 opens_ends Op.Sub rest h = ends_always rest
 opens_ends Op.Mul rest h = ends_always rest
 opens_ends Op.Div rest h = ends_always rest
+opens_ends Op.Join rest h = ends_always rest
 opens_ends Op.Eq rest h = ends_always rest
 opens_ends Op.Ne rest h = ends_always rest
 opens_ends Op.Le rest h = ends_always rest
@@ -109,6 +111,10 @@ name_opens Fun.Index rest = refl
 name_opens Fun.Match rest = refl
 name_opens Fun.VLookup rest = refl
 name_opens Fun.HLookup rest = refl
+name_opens Fun.Left rest = refl
+name_opens Fun.Right rest = refl
+name_opens Fun.Mid rest = refl
+name_opens Fun.Len rest = refl
 
 -- the tokens of lexemes on both sides of one
 pub tokens_around : (ts : Texts) (xs ys : List Lexeme) (t : Token) (us vs : List Token) → map (token_of ts) xs ≡ us → map (token_of ts) ys ≡ vs → map (token_of ts) (xs ++ Other t ∷ ys) ≡ us ++ t ∷ vs

@@ -17,13 +17,13 @@ use Rattle.cell_values.specs.Numbers.{fits}
 use Rattle.cell_values.specs.ShownText.{int_text, bool_text}
 use Rattle.cell_values.specs.Texts.{Texts, text_at}
 use Rattle.formula_trees.specs.Expr.{Expr, Number, Text, Truth, RefError}
-use Rattle.formula_trees.specs.declared.levels.TheConstants.{COMPARISON_LEVEL, SUM_LEVEL, TERM_LEVEL, SIGN_LEVEL, OPERAND_LEVEL}
+use Rattle.formula_trees.specs.declared.levels.TheConstants.{COMPARISON_LEVEL, JOIN_LEVEL, SUM_LEVEL, TERM_LEVEL, SIGN_LEVEL, OPERAND_LEVEL}
 use Rattle.formula_trees.specs.Sound.{IsLiteral}
 use Rattle.formula_tokens.specs.declared.token.Literal.{Literal}
 use Rattle.formula_tokens.specs.declared.token.Token.{Token}
 use Rattle.formula_tokens.specs.Lexemes.{Quoted, Other}
 use Rattle.formula_tokens.specs.Spelling.{quoted}
-use Rattle.formula_grammar.specs.Syntax.{Expression, only_sum, Sums, only_term, Term, only_signed, Signed, plain, Primary, group, node, Fits, SumsFit, TermFits, SignedFits, PrimaryFits, spelling, sums_spelling, term_spelling, signed_spelling, primary_spelling, marks, sums_marks, term_marks, signed_marks, primary_marks, meaning, sums_meaning, term_meaning, signed_meaning, primary_meaning}
+use Rattle.formula_grammar.specs.Syntax.{Expression, only_joins, Joins, only_sum, Sums, only_term, Term, only_signed, Signed, plain, Primary, group, node, Fits, JoinsFit, SumsFit, TermFits, SignedFits, PrimaryFits, spelling, joins_spelling, sums_spelling, term_spelling, signed_spelling, primary_spelling, marks, joins_marks, sums_marks, term_marks, signed_marks, primary_marks, meaning, joins_meaning, sums_meaning, term_meaning, signed_meaning, primary_meaning}
 use Rattle.formula_tokens.proofs.Lexed.{lexemes_in}
 use Rattle.formula_tokens.proofs.LexedWords.{opens, begins_not, closes_digits, fitting, number_lexeme}
 use Rattle.formula_tokens.proofs.Held.{numbered}
@@ -40,14 +40,16 @@ levels_in level least inner = cond (nat_lt level least) (suc inner) inner
 -- a tree whose root has a level, at each level
 pub record Views (names : List (List ℕ)) (ts : Texts) (at : Addr) (e : Expr) (n i level : ℕ) (text : List ℕ) : Type 0 where
   pub expression : Expression
+  pub joins : Joins
   pub sums : Sums
   pub term : Term
   pub signed : Signed
   pub whole : Part names ts Expr e n i text (Fits true expression) (spelling expression) (marks expression) (meaning at expression)
   pub first : Part names ts Expr e n (levels_in level COMPARISON_LEVEL i) (text_in level COMPARISON_LEVEL text) (Fits true expression) (spelling expression) (marks expression) (meaning at expression)
-  pub second : Part names ts Expr e n (levels_in level SUM_LEVEL i) (text_in level SUM_LEVEL text) (SumsFit true sums) (sums_spelling sums) (sums_marks sums) (sums_meaning at sums)
-  pub third : Part names ts Expr e n (levels_in level TERM_LEVEL i) (text_in level TERM_LEVEL text) (TermFits true term) (term_spelling term) (term_marks term) (term_meaning at term)
-  pub fourth : Part names ts Expr e n (levels_in level SIGN_LEVEL i) (text_in level SIGN_LEVEL text) (SignedFits true signed) (signed_spelling signed) (signed_marks signed) (signed_meaning at signed)
+  pub second : Part names ts Expr e n (levels_in level JOIN_LEVEL i) (text_in level JOIN_LEVEL text) (JoinsFit true joins) (joins_spelling joins) (joins_marks joins) (joins_meaning at joins)
+  pub third : Part names ts Expr e n (levels_in level SUM_LEVEL i) (text_in level SUM_LEVEL text) (SumsFit true sums) (sums_spelling sums) (sums_marks sums) (sums_meaning at sums)
+  pub fourth : Part names ts Expr e n (levels_in level TERM_LEVEL i) (text_in level TERM_LEVEL text) (TermFits true term) (term_spelling term) (term_marks term) (term_meaning at term)
+  pub fifth : Part names ts Expr e n (levels_in level SIGN_LEVEL i) (text_in level SIGN_LEVEL text) (SignedFits true signed) (signed_spelling signed) (signed_marks signed) (signed_meaning at signed)
 
 module _ (names : List (List ℕ)) (ts : Texts) (at : Addr) where
   pub from_expression : (e : Expr) (n i : ℕ) (text : List ℕ) (x : Expression) → Part names ts Expr e n i text (Fits true x) (spelling x) (marks x) (meaning at x) → Views names ts at e n i COMPARISON_LEVEL text
@@ -55,6 +57,7 @@ module _ (names : List (List ℕ)) (ts : Texts) (at : Addr) where
       let g = grouped names ts e n i text (Fits true x) (spelling x) (marks x) (meaning at x) p in
       record {
         expression = x;
+        joins = only_sum (only_term (only_signed (plain (group x))));
         sums = only_term (only_signed (plain (group x)));
         term = only_signed (plain (group x));
         signed = plain (group x);
@@ -63,41 +66,64 @@ module _ (names : List (List ℕ)) (ts : Texts) (at : Addr) where
         second = g;
         third = g;
         fourth = g;
+        fifth = g;
+      }
+
+  pub from_joins : (e : Expr) (n i : ℕ) (text : List ℕ) (x : Joins) → Part names ts Expr e n i text (JoinsFit true x) (joins_spelling x) (joins_marks x) (joins_meaning at x) → Views names ts at e n i JOIN_LEVEL text
+  from_joins e n i text x p =
+      let g = grouped names ts e n i text (JoinsFit true x) (joins_spelling x) (joins_marks x) (joins_meaning at x) p in
+      record {
+        expression = only_joins x;
+        joins = x;
+        sums = only_term (only_signed (plain (group (only_joins x))));
+        term = only_signed (plain (group (only_joins x)));
+        signed = plain (group (only_joins x));
+        whole = p;
+        first = p;
+        second = p;
+        third = g;
+        fourth = g;
+        fifth = g;
       }
 
   pub from_sums : (e : Expr) (n i : ℕ) (text : List ℕ) (x : Sums) → Part names ts Expr e n i text (SumsFit true x) (sums_spelling x) (sums_marks x) (sums_meaning at x) → Views names ts at e n i SUM_LEVEL text
   from_sums e n i text x p =
       let g = grouped names ts e n i text (SumsFit true x) (sums_spelling x) (sums_marks x) (sums_meaning at x) p in
       record {
-        expression = only_sum x;
+        expression = only_joins (only_sum x);
+        joins = only_sum x;
         sums = x;
-        term = only_signed (plain (group (only_sum x)));
-        signed = plain (group (only_sum x));
+        term = only_signed (plain (group (only_joins (only_sum x))));
+        signed = plain (group (only_joins (only_sum x)));
         whole = p;
         first = p;
         second = p;
-        third = g;
+        third = p;
         fourth = g;
+        fifth = g;
       }
 
   pub from_term : (e : Expr) (n i : ℕ) (text : List ℕ) (x : Term) → Part names ts Expr e n i text (TermFits true x) (term_spelling x) (term_marks x) (term_meaning at x) → Views names ts at e n i TERM_LEVEL text
   from_term e n i text x p =
       let g = grouped names ts e n i text (TermFits true x) (term_spelling x) (term_marks x) (term_meaning at x) p in
       record {
-        expression = only_sum (only_term x);
+        expression = only_joins (only_sum (only_term x));
+        joins = only_sum (only_term x);
         sums = only_term x;
         term = x;
-        signed = plain (group (only_sum (only_term x)));
+        signed = plain (group (only_joins (only_sum (only_term x))));
         whole = p;
         first = p;
         second = p;
         third = p;
-        fourth = g;
+        fourth = p;
+        fifth = g;
       }
 
   pub from_signed : (e : Expr) (n i : ℕ) (text : List ℕ) (x : Signed) → Part names ts Expr e n i text (SignedFits true x) (signed_spelling x) (signed_marks x) (signed_meaning at x) → Views names ts at e n i SIGN_LEVEL text
   from_signed e n i text x p = record {
-    expression = only_sum (only_term (only_signed x));
+    expression = only_joins (only_sum (only_term (only_signed x)));
+    joins = only_sum (only_term (only_signed x));
     sums = only_term (only_signed x);
     term = only_signed x;
     signed = x;
@@ -106,11 +132,13 @@ module _ (names : List (List ℕ)) (ts : Texts) (at : Addr) where
     second = p;
     third = p;
     fourth = p;
+    fifth = p;
   }
 
   pub from_primary : (e : Expr) (n i : ℕ) (text : List ℕ) (x : Primary) → Part names ts Expr e n i text (PrimaryFits true x) (primary_spelling x) (primary_marks x) (primary_meaning at x) → Views names ts at e n i OPERAND_LEVEL text
   from_primary e n i text x p = record {
-    expression = only_sum (only_term (only_signed (plain x)));
+    expression = only_joins (only_sum (only_term (only_signed (plain x))));
+    joins = only_sum (only_term (only_signed (plain x)));
     sums = only_term (only_signed (plain x));
     term = only_signed (plain x);
     signed = plain x;
@@ -119,6 +147,7 @@ module _ (names : List (List ℕ)) (ts : Texts) (at : Addr) where
     second = p;
     third = p;
     fourth = p;
+    fifth = p;
   }
 
 -- literals

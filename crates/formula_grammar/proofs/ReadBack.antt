@@ -14,21 +14,21 @@ use Rattle.formula_trees.specs.declared.functions.Kind.{Kind}
 use Rattle.formula_trees.specs.declared.functions.Kind.TheVariants.{Plain, Place, Many, Exact}
 use Rattle.formula_trees.specs.Functions.{kind_of, enough, takes_more}
 use Rattle.formula_trees.specs.SheetNumbers.{SheetsBelow, AllSheetsBelow}
-use Rattle.formula_trees.specs.declared.levels.TheConstants.{COMPARISON_LEVEL, SUM_LEVEL, TERM_LEVEL}
+use Rattle.formula_trees.specs.declared.levels.TheConstants.{COMPARISON_LEVEL, JOIN_LEVEL, SUM_LEVEL, TERM_LEVEL}
 use Rattle.formula_trees.specs.Sound.{IsLiteral, IsExpression, HasArguments, OfKind, nodes, nodes_of, levels, levels_of, level_of, op_level}
 use Rattle.formula_trees.specs.TextNumbers.{TextsBelow, AllTextsBelow}
 use Rattle.formula_tokens.specs.declared.token.Literal.{Literal}
 use Rattle.formula_tokens.specs.declared.token.Token.{Token}
 use Rattle.formula_tokens.specs.Tokens.{token_of, spots_of, HoldsLiteral, HoldsLiterals}
 use Rattle.formula_grammar.specs.Printed.{printed, text_of, arguments_text}
-use Rattle.formula_grammar.specs.Syntax.{compare, add, multiply, signed, literal, reference, call_none, call, Arguments, last, more, Argument, value, cell, area, lone, IsOfKind, is_exact, ArgumentsFit, ArgumentFits, spelling, arguments_spelling, argument_spelling, arguments_marks, argument_marks, arguments_meaning, argument_meaning}
+use Rattle.formula_grammar.specs.Syntax.{compare, join, add, multiply, signed, literal, reference, call_none, call, Arguments, last, more, Argument, value, cell, area, lone, IsOfKind, is_exact, ArgumentsFit, ArgumentFits, spelling, arguments_spelling, argument_spelling, arguments_marks, argument_marks, arguments_meaning, argument_meaning}
 use Rattle.formula_grammar.specs.Fault.{own_fault, named_fault, tokens_of}
 use Rattle.formula_grammar.specs.RoundTrip.{PrintedReadsBack, PrintedInternsNothing}
 use Rattle.formula_tokens.proofs.Lexed.{lexemes_in, whole_tokens, whole_held}
 use Rattle.formula_tokens.proofs.Held.{held_stay}
 use Rattle.formula_grammar.proofs.PrintedParts.{Part, of_kind, under_sign, between, called_none, called, ended, followed}
 use Rattle.formula_grammar.proofs.PrintedReferences.{target_of, reference_part, range_part}
-use Rattle.formula_grammar.proofs.PrintedViews.{Views, from_expression, from_sums, from_term, from_signed, from_primary, number_part, text_part, truth_part, ref_error_part}
+use Rattle.formula_grammar.proofs.PrintedViews.{Views, from_expression, from_joins, from_sums, from_term, from_signed, from_primary, number_part, text_part, truth_part, ref_error_part}
 
 module _ (names : List (List ℕ)) (ts : Texts) (at : Addr) (good : AreSheetNames names) (distinct : AreDistinct ts) where
   abbrev Right : Expr → Type 0
@@ -43,16 +43,17 @@ module _ (names : List (List ℕ)) (ts : Texts) (at : Addr) (good : AreSheetName
     part : Part names ts Exprs args (nodes_of args) (levels_of args) (arguments_text names ts at args) (ArgumentsFit true (Some f) n nodes) (arguments_spelling nodes) (arguments_marks nodes) (arguments_meaning at nodes)
 
   right_binary : (o : Op) (a b : Expr) → Right a → Right b → Right (Binary o a b)
-  right_binary Op.Add a b v w = from_sums names ts at _ _ _ _ (add v.sums Op.Add w.term) (between names ts Op.Add (op_level Op.Add ≡ SUM_LEVEL) refl a _ _ _ _ _ _ _ b _ _ _ _ _ _ _ v.second w.third)
-  right_binary Op.Sub a b v w = from_sums names ts at _ _ _ _ (add v.sums Op.Sub w.term) (between names ts Op.Sub (op_level Op.Sub ≡ SUM_LEVEL) refl a _ _ _ _ _ _ _ b _ _ _ _ _ _ _ v.second w.third)
-  right_binary Op.Mul a b v w = from_term names ts at _ _ _ _ (multiply v.term Op.Mul w.signed) (between names ts Op.Mul (op_level Op.Mul ≡ TERM_LEVEL) refl a _ _ _ _ _ _ _ b _ _ _ _ _ _ _ v.third w.fourth)
-  right_binary Op.Div a b v w = from_term names ts at _ _ _ _ (multiply v.term Op.Div w.signed) (between names ts Op.Div (op_level Op.Div ≡ TERM_LEVEL) refl a _ _ _ _ _ _ _ b _ _ _ _ _ _ _ v.third w.fourth)
-  right_binary Op.Eq a b v w = from_expression names ts at _ _ _ _ (compare v.expression Op.Eq w.sums) (between names ts Op.Eq (op_level Op.Eq ≡ COMPARISON_LEVEL) refl a _ _ _ _ _ _ _ b _ _ _ _ _ _ _ v.first w.second)
-  right_binary Op.Ne a b v w = from_expression names ts at _ _ _ _ (compare v.expression Op.Ne w.sums) (between names ts Op.Ne (op_level Op.Ne ≡ COMPARISON_LEVEL) refl a _ _ _ _ _ _ _ b _ _ _ _ _ _ _ v.first w.second)
-  right_binary Op.Lt a b v w = from_expression names ts at _ _ _ _ (compare v.expression Op.Lt w.sums) (between names ts Op.Lt (op_level Op.Lt ≡ COMPARISON_LEVEL) refl a _ _ _ _ _ _ _ b _ _ _ _ _ _ _ v.first w.second)
-  right_binary Op.Le a b v w = from_expression names ts at _ _ _ _ (compare v.expression Op.Le w.sums) (between names ts Op.Le (op_level Op.Le ≡ COMPARISON_LEVEL) refl a _ _ _ _ _ _ _ b _ _ _ _ _ _ _ v.first w.second)
-  right_binary Op.Gt a b v w = from_expression names ts at _ _ _ _ (compare v.expression Op.Gt w.sums) (between names ts Op.Gt (op_level Op.Gt ≡ COMPARISON_LEVEL) refl a _ _ _ _ _ _ _ b _ _ _ _ _ _ _ v.first w.second)
-  right_binary Op.Ge a b v w = from_expression names ts at _ _ _ _ (compare v.expression Op.Ge w.sums) (between names ts Op.Ge (op_level Op.Ge ≡ COMPARISON_LEVEL) refl a _ _ _ _ _ _ _ b _ _ _ _ _ _ _ v.first w.second)
+  right_binary Op.Add a b v w = from_sums names ts at _ _ _ _ (add v.sums Op.Add w.term) (between names ts Op.Add (op_level Op.Add ≡ SUM_LEVEL) refl a _ _ _ _ _ _ _ b _ _ _ _ _ _ _ v.third w.fourth)
+  right_binary Op.Sub a b v w = from_sums names ts at _ _ _ _ (add v.sums Op.Sub w.term) (between names ts Op.Sub (op_level Op.Sub ≡ SUM_LEVEL) refl a _ _ _ _ _ _ _ b _ _ _ _ _ _ _ v.third w.fourth)
+  right_binary Op.Mul a b v w = from_term names ts at _ _ _ _ (multiply v.term Op.Mul w.signed) (between names ts Op.Mul (op_level Op.Mul ≡ TERM_LEVEL) refl a _ _ _ _ _ _ _ b _ _ _ _ _ _ _ v.fourth w.fifth)
+  right_binary Op.Div a b v w = from_term names ts at _ _ _ _ (multiply v.term Op.Div w.signed) (between names ts Op.Div (op_level Op.Div ≡ TERM_LEVEL) refl a _ _ _ _ _ _ _ b _ _ _ _ _ _ _ v.fourth w.fifth)
+  right_binary Op.Join a b v w = from_joins names ts at _ _ _ _ (join v.joins Op.Join w.sums) (between names ts Op.Join (op_level Op.Join ≡ JOIN_LEVEL) refl a _ _ _ _ _ _ _ b _ _ _ _ _ _ _ v.second w.third)
+  right_binary Op.Eq a b v w = from_expression names ts at _ _ _ _ (compare v.expression Op.Eq w.joins) (between names ts Op.Eq (op_level Op.Eq ≡ COMPARISON_LEVEL) refl a _ _ _ _ _ _ _ b _ _ _ _ _ _ _ v.first w.second)
+  right_binary Op.Ne a b v w = from_expression names ts at _ _ _ _ (compare v.expression Op.Ne w.joins) (between names ts Op.Ne (op_level Op.Ne ≡ COMPARISON_LEVEL) refl a _ _ _ _ _ _ _ b _ _ _ _ _ _ _ v.first w.second)
+  right_binary Op.Lt a b v w = from_expression names ts at _ _ _ _ (compare v.expression Op.Lt w.joins) (between names ts Op.Lt (op_level Op.Lt ≡ COMPARISON_LEVEL) refl a _ _ _ _ _ _ _ b _ _ _ _ _ _ _ v.first w.second)
+  right_binary Op.Le a b v w = from_expression names ts at _ _ _ _ (compare v.expression Op.Le w.joins) (between names ts Op.Le (op_level Op.Le ≡ COMPARISON_LEVEL) refl a _ _ _ _ _ _ _ b _ _ _ _ _ _ _ v.first w.second)
+  right_binary Op.Gt a b v w = from_expression names ts at _ _ _ _ (compare v.expression Op.Gt w.joins) (between names ts Op.Gt (op_level Op.Gt ≡ COMPARISON_LEVEL) refl a _ _ _ _ _ _ _ b _ _ _ _ _ _ _ v.first w.second)
+  right_binary Op.Ge a b v w = from_expression names ts at _ _ _ _ (compare v.expression Op.Ge w.joins) (between names ts Op.Ge (op_level Op.Ge ≡ COMPARISON_LEVEL) refl a _ _ _ _ _ _ _ b _ _ _ _ _ _ _ v.first w.second)
 
   right_value : (k : Kind) (e : Expr) (v : Right e) → IsOfKind k (value v.expression) → RightArgument k e
   right_value k e v h = record { node = value v.expression; part = of_kind names ts (IsOfKind k (value v.expression)) h _ _ _ _ _ _ _ _ v.whole }
@@ -97,7 +98,7 @@ module _ (names : List (List ℕ)) (ts : Texts) (at : Addr) (good : AreSheetName
     right (Ref r) h texts sheets = let p = reference_part names ts good at r h sheets in from_primary names ts at _ _ _ _ (reference (target_of r.sheet p.0)) p.1
     right (Range r s) h texts sheets = absurd h
     right RefError h texts sheets = from_primary names ts at _ _ _ _ (literal Literal.RefError) (ref_error_part names ts (Unit {0}) tt)
-    right (Unary g a) h texts sheets = let v = right a h texts sheets in from_signed names ts at _ _ _ _ (signed g v.signed) (under_sign names ts g a _ _ _ _ _ _ _ v.fourth)
+    right (Unary g a) h texts sheets = let v = right a h texts sheets in from_signed names ts at _ _ _ _ (signed g v.signed) (under_sign names ts g a _ _ _ _ _ _ _ v.fifth)
     right (Binary o a b) h texts sheets = right_binary o a b (right a h.0 texts.0 sheets.0) (right b h.1 texts.1 sheets.1)
     right (Call f End) h texts sheets = from_primary names ts at _ _ _ _ (call_none (Some f)) (called_none names ts f (IsTrue (enough f 0)) h)
     right (Call f (More a rest)) h texts sheets =

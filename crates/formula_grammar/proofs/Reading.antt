@@ -1,9 +1,9 @@
 -- How the readers of parts go together.
-use Rattle.std.proofs.Common.{Some, None, cond, ◌≡◌, ◌≢◌, ℕ, suc, ◌+◌, ◌-◌, ◌<◌, ◌≤◌, List, [], ◌∷◌, ◌++◌, length, drop, Bool, true, false, Option, Result, Ok, Err, IfOk, IfErr, OnOk, ◌⊎◌, nat_le, le-leb, ⊎_elim, refl, sym, ap, ap₂, ◌∙◌, subst, arith, append_assoc}
+use Rattle.std.proofs.Common.{Some, None, cond, ◌≡◌, ◌≢◌, ℕ, suc, ◌+◌, ◌-◌, ◌<◌, ◌≤◌, List, [], ◌∷◌, ◌++◌, length, drop, Bool, true, false, Option, Result, Ok, Err, IfOk, IfErr, OnOk, ◌⊎◌, nat_le, le-leb, refl, sym, ap, ap₂, ◌∙◌, subst, arith, append_assoc}
 use Rattle.cell_values.specs.declared.address.Addr.{Addr}
 use Rattle.cell_values.specs.declared.TheConstants.{MAX_RANGE_CELLS}
 use Rattle.formula_trees.specs.declared.TheConstants.{MAX_NODES, MAX_LEVELS}
-use Rattle.formula_trees.specs.declared.levels.TheConstants.{COMPARISON_LEVEL, SUM_LEVEL, TERM_LEVEL}
+use Rattle.formula_trees.specs.declared.levels.TheConstants.{COMPARISON_LEVEL, JOIN_LEVEL, SUM_LEVEL, TERM_LEVEL}
 use Rattle.formula_trees.specs.declared.tree.Fun.{Fun}
 use Rattle.formula_trees.specs.declared.tree.Op.{Op}
 use Rattle.formula_trees.specs.declared.tree.Sign.{Sign}
@@ -21,13 +21,13 @@ use Rattle.formula_grammar.specs.declared.faults.FormulaFault.{FormulaFault}
 use Rattle.formula_grammar.specs.declared.faults.FormulaFault.TheVariants.{Bad}
 use Rattle.formula_grammar.specs.declared.faults.FaultKind.{FaultKind}
 use Rattle.formula_grammar.specs.Fault.{own_fault, named_fault, tokens_of}
-use Rattle.formula_grammar.specs.Syntax.{quiet, node, kind_at, is_alone, sign_op, target_meaning, target_spelling, only_sum, compare, only_term, add, only_signed, multiply, plain, signed, literal, reference, group, call_none, call, last, more, value, cell, area, lone, spelling, sums_spelling, term_spelling, signed_spelling, arguments_spelling, argument_spelling, ArgumentsFit, literal_meaning, reference_at, argument_meaning}
+use Rattle.formula_grammar.specs.Syntax.{quiet, node, kind_at, is_alone, sign_op, target_meaning, target_spelling, only_joins, compare, only_sum, join, only_term, add, only_signed, multiply, plain, signed, literal, reference, group, call_none, call, last, more, value, cell, area, lone, spelling, joins_spelling, sums_spelling, term_spelling, signed_spelling, arguments_spelling, argument_spelling, ArgumentsFit, literal_meaning, reference_at, argument_meaning}
 use Rattle.formula_grammar.specs.Steps.{Frame, in_group, in_call, State, operand, operator, named, opened, argument, sheet, corner, colon, ended, landed, if_counted, on_lone, on_sign, move, mark_at, open_levels, is_bad, checked, within, step, Outcome, fault, run, run_on, at_end, refused, Move}
 use Rattle.formula_grammar.specs.Rest.{Rest, next_of, next_token, next_place, place_of, tokens_left, behind_next, run_rest, misfit, token_level, sign_token, begins_target, begins_colon, range_ahead, sheet_range_ahead}
-use Rattle.formula_grammar.specs.Parts.{Fails, FailsNode, RunsOperand, FailsOperand, FailsSigned, FailsArguments, FailsArgument, FailsAlone, FailsTarget, FailsSecond, FailsSheetWord, FailsSecondWord, ReadsExpression, ReadsSums, ReadsTerm, ReadsSigned, ReadsPrimary, ReadsArguments, ReadsArgument, ReadsAlone, ReadsLone, ReadsTarget, ReadsSecond, Awaits, target_of}
+use Rattle.formula_grammar.specs.Parts.{Fails, FailsNode, RunsOperand, FailsOperand, FailsSigned, FailsArguments, FailsArgument, FailsAlone, FailsTarget, FailsSecond, FailsSheetWord, FailsSecondWord, ReadsExpression, ReadsJoins, ReadsSums, ReadsTerm, ReadsSigned, ReadsPrimary, ReadsArguments, ReadsArgument, ReadsAlone, ReadsLone, ReadsTarget, ReadsSecond, ReadsSheetWord, Awaits, target_of}
 use Rattle.formula_grammar.proofs.Verdict.{Passes}
 use Rattle.std.proofs.lemmas.Bool.{lt-leb}
-use Rattle.formula_grammar.proofs.Follows.{level_cases}
+use Rattle.formula_grammar.proofs.Follows.{level_within}
 use Rattle.formula_grammar.proofs.Accepted.{step_passes}
 
 -- a token was next and is passed; it made so many nodes
@@ -155,6 +155,13 @@ run_prefix s k fs from old mid t a = run_quiet (Token.Prefix (Some s)) old mid f
 
 pub fails_prefixed : (s : ℕ) (old mid : Rest) (e : FormulaFault) → Took (Token.Prefix (Some s)) 0 old mid → FailsSheetWord mid e → FailsTarget old e
 fails_prefixed s old mid e t f k fs from a = fails_by _ _ e (run_prefix s k fs from old mid t a) (f k fs)
+
+pub target_prefixed : (s : ℕ) (w : Word) (old mid new : Rest) → Took (Token.Prefix (Some s)) 0 old mid → ReadsSheetWord mid new w → ReadsTarget old new (Some s) w
+target_prefixed s w old mid new t a = record {
+  spelled = took_spelled _ _ old mid t ∙ ap (λ ts. Token.Prefix (Some s) ∷ ts) a.spelled;
+  inside = a.inside;
+  runs = λ k fs from h. run_prefix s k fs from old mid t h ∙ a.runs k fs;
+}
 
 awaits_place : (fs : List Frame) (t : Token) → ((l : Literal) → t ≢ Token.Literal l) → Awaits Place fs (argument Place fs) t
 awaits_place fs t h = record { word = λ w. refl; word_mark = λ w. refl; prefix = λ x. refl; prefix_mark = λ x. refl; other = by_token t h }
@@ -288,14 +295,26 @@ run_operator op fs old new a h = run_node (Token.Operator op) old new (operator 
 runs_over : (d : ℕ) (op : Op) (old mid mid' : Rest) → RunsOperand d old mid → Took (Token.Operator op) 1 mid mid' → mid.nodes < MAX_NODES → (fs : List Frame) → open_levels fs ≡ d → run_rest old (operand 0 fs) ≡ run_rest mid' (operand 0 fs)
 runs_over d op old mid mid' r e n fs h = r fs h ∙ run_operator op fs mid mid' e n
 
-pub expression_first : (own : Addr) (d : ℕ) (old new : Rest) (x : Expr) → ReadsSums own d old new x → ReadsExpression own d old new x
-expression_first own d old new x a = record { part = only_sum a.part; fits = a.fits; spelled = a.spelled; means = a.means; runs = a.runs }
+pub expression_first : (own : Addr) (d : ℕ) (old new : Rest) (x : Expr) → ReadsJoins own d old new x → ReadsExpression own d old new x
+expression_first own d old new x a = record { part = only_joins a.part; fits = a.fits; spelled = a.spelled; means = a.means; runs = a.runs }
 
-pub expression_more : (own : Addr) (d : ℕ) (op : Op) (old mid mid' new : Rest) (x y z : Expr) → ReadsExpression own d old mid x → Took (Token.Operator op) 1 mid mid' → mid.nodes < MAX_NODES → op_level op ≡ COMPARISON_LEVEL → ReadsSums own d mid' new y → z ≡ Binary op x y → ReadsExpression own d old new z
+pub expression_more : (own : Addr) (d : ℕ) (op : Op) (old mid mid' new : Rest) (x y z : Expr) → ReadsExpression own d old mid x → Took (Token.Operator op) 1 mid mid' → mid.nodes < MAX_NODES → op_level op ≡ COMPARISON_LEVEL → ReadsJoins own d mid' new y → z ≡ Binary op x y → ReadsExpression own d old new z
 expression_more own d op old mid mid' new x y z a e n l b m = record {
   part = compare a.part op b.part;
   fits = (a.fits, l, b.fits);
-  spelled = a.spelled ∙ ap (λ ts. spelling a.part ++ ts) (took_spelled _ _ mid mid' e ∙ ap (λ ts. Token.Operator op ∷ ts) b.spelled) ∙ sym (append_assoc (spelling a.part) (Token.Operator op ∷ sums_spelling b.part) (tokens_left new));
+  spelled = a.spelled ∙ ap (λ ts. spelling a.part ++ ts) (took_spelled _ _ mid mid' e ∙ ap (λ ts. Token.Operator op ∷ ts) b.spelled) ∙ sym (append_assoc (spelling a.part) (Token.Operator op ∷ joins_spelling b.part) (tokens_left new));
+  means = m ∙ ap₂ (Binary op) a.means b.means;
+  runs = λ fs k. runs_over d op old mid mid' a.runs e n fs k ∙ b.runs fs k;
+}
+
+pub joins_first : (own : Addr) (d : ℕ) (old new : Rest) (x : Expr) → ReadsSums own d old new x → ReadsJoins own d old new x
+joins_first own d old new x a = record { part = only_sum a.part; fits = a.fits; spelled = a.spelled; means = a.means; runs = a.runs }
+
+pub joins_more : (own : Addr) (d : ℕ) (op : Op) (old mid mid' new : Rest) (x y z : Expr) → ReadsJoins own d old mid x → Took (Token.Operator op) 1 mid mid' → mid.nodes < MAX_NODES → op_level op ≡ JOIN_LEVEL → ReadsSums own d mid' new y → z ≡ Binary op x y → ReadsJoins own d old new z
+joins_more own d op old mid mid' new x y z a e n l b m = record {
+  part = join a.part op b.part;
+  fits = (a.fits, l, b.fits);
+  spelled = a.spelled ∙ ap (λ ts. joins_spelling a.part ++ ts) (took_spelled _ _ mid mid' e ∙ ap (λ ts. Token.Operator op ∷ ts) b.spelled) ∙ sym (append_assoc (joins_spelling a.part) (Token.Operator op ∷ sums_spelling b.part) (tokens_left new));
   means = m ∙ ap₂ (Binary op) a.means b.means;
   runs = λ fs k. runs_over d op old mid mid' a.runs e n fs k ∙ b.runs fs k;
 }
@@ -415,11 +434,8 @@ primary_group own d old mid mid' new x e l a h = record {
 pub fails_group : (d : ℕ) (old mid : Rest) (e : FormulaFault) → Took Token.LeftParen 0 old mid → d < MAX_LEVELS → FailsOperand (d + 1) mid e → FailsSigned d old e
 fails_group d old mid e h l f s fs k = fails_by _ _ e (run_left d s fs old mid h k l) (f (in_group s ∷ fs) (omega (arith, k)))
 
-pub level_from_1 : (op : Op) → 1 ≤ op_level op
-level_from_1 op = ⊎_elim (λ e. omega (arith, e)) (λ r. ⊎_elim (λ e. omega (arith, e)) (λ e. omega (arith, e)) r) (level_cases op)
-
 group_stuck : (s : ℕ) (fs : List Frame) (t : Token) → token_level t ≡ 0 → t ≢ Token.RightParen → move true (operator (in_group s ∷ fs)) t ≡ Err FaultKind.Misplaced
-group_stuck s fs (Token.Operator op) h r = let x = level_from_1 op in absurd (omega (arith, h, x))
+group_stuck s fs (Token.Operator op) h r = let x = (level_within op).0 in absurd (omega (arith, h, x))
 group_stuck s fs Token.RightParen h r = absurd (r refl)
 group_stuck s fs t h r = refl
 
@@ -590,7 +606,7 @@ run_ended [] end n fs h = refl
 run_ended (t ∷ ts) end n fs h = by_token t.token h
   where
     by_token : (u : Token) → token_level u ≡ 0 → run_on (run ts end (n + (mark_at (operator fs) u).nodes)) t.place (step n (operator fs) u) ≡ run_on (run ts end (n + (mark_at (ended fs) u).nodes)) t.place (step n (ended fs) u)
-    by_token (Token.Operator op) h = let x = level_from_1 op in absurd (omega (arith, h, x))
+    by_token (Token.Operator op) h = let x = (level_within op).0 in absurd (omega (arith, h, x))
     by_token u h = refl
 
 run_value : (ts : List Spot) (end n : ℕ) (fs : List Frame) → run ts end n (argument Plain fs) ≡ run ts end n (operand 0 fs)

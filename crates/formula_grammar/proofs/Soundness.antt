@@ -9,7 +9,7 @@ use Rattle.cell_values.specs.Areas.{height, width, between_cells}
 use Rattle.cell_values.specs.Numbers.{fits}
 use Rattle.cell_values.specs.declared.TheConstants.{LAST_COLUMN, LAST_ROW, MAX_RANGE_CELLS}
 use Rattle.formula_trees.specs.declared.TheConstants.{MAX_LEVELS}
-use Rattle.formula_trees.specs.declared.levels.TheConstants.{COMPARISON_LEVEL, SUM_LEVEL, TERM_LEVEL, SIGN_LEVEL, OPERAND_LEVEL}
+use Rattle.formula_trees.specs.declared.levels.TheConstants.{COMPARISON_LEVEL, JOIN_LEVEL, SUM_LEVEL, TERM_LEVEL, SIGN_LEVEL, OPERAND_LEVEL}
 use Rattle.formula_trees.specs.declared.tree.Fun.{Fun}
 use Rattle.formula_trees.specs.declared.tree.Op.{Op}
 use Rattle.formula_trees.specs.declared.tree.Sign.{Sign}
@@ -23,7 +23,7 @@ use Rattle.formula_tokens.specs.declared.token.Corner.{Corner}
 use Rattle.formula_tokens.specs.declared.token.Literal.{Literal}
 use Rattle.formula_tokens.specs.declared.token.Token.{Token}
 use Rattle.formula_tokens.specs.declared.token.Word.{Word}
-use Rattle.formula_grammar.specs.Syntax.{Mark, quiet, node, is_exact, is_ref_error, part, cells_between, Target, here, on_sheet, target_sheet, Expression, only_sum, compare, Sums, only_term, add, Term, only_signed, multiply, Signed, plain, signed, Primary, literal, reference, group, call_none, call, Arguments, last, more, Argument, value, cell, area, lone, sign_op, target_spelling, spelling, sums_spelling, term_spelling, signed_spelling, primary_spelling, arguments_spelling, argument_spelling, target_marks, marks, sums_marks, term_marks, signed_marks, primary_marks, arguments_marks, argument_marks, IsOfKind, Fits, SumsFit, TermFits, SignedFits, PrimaryFits, ArgumentsFit, ArgumentFits, literal_meaning, reference_at, target_meaning, meaning, sums_meaning, term_meaning, signed_meaning, primary_meaning, arguments_meaning, argument_meaning}
+use Rattle.formula_grammar.specs.Syntax.{Mark, quiet, node, is_exact, is_ref_error, part, cells_between, Target, here, on_sheet, target_sheet, Expression, only_joins, compare, Joins, only_sum, join, Sums, only_term, add, Term, only_signed, multiply, Signed, plain, signed, Primary, literal, reference, group, call_none, call, Arguments, last, more, Argument, value, cell, area, lone, sign_op, target_spelling, spelling, joins_spelling, sums_spelling, term_spelling, signed_spelling, primary_spelling, arguments_spelling, argument_spelling, target_marks, marks, joins_marks, sums_marks, term_marks, signed_marks, primary_marks, arguments_marks, argument_marks, IsOfKind, Fits, JoinsFit, SumsFit, TermFits, SignedFits, PrimaryFits, ArgumentsFit, ArgumentFits, literal_meaning, reference_at, target_meaning, meaning, joins_meaning, sums_meaning, term_meaning, signed_meaning, primary_meaning, arguments_meaning, argument_meaning}
 use Rattle.formula_grammar.specs.declared.faults.FaultKind.{FaultKind}
 use Rattle.formula_grammar.specs.Fault.{own_fault, named_fault, literal_fault, word_fault, corner_fault, is_inside, total_nodes, Reads}
 use Rattle.formula_grammar.proofs.Verdict.{total-append}
@@ -218,7 +218,7 @@ good_group : (own : Addr) (x : Expr) (d : ℕ) (ms : List Mark) (m : Mark) → m
 good_group own x d ms m z g =
     let total = total-append ms (quiet ∷ []) in
     let i = at_least_inner COMPARISON_LEVEL x (levels x) in
-    let o = at_most_outer 5 x (levels x) in
+    let o = at_most_outer OPERAND_LEVEL x (levels x) in
     let f = g.flat in
     let c = g.counts in
     record { shape = g.shape; counts = omega (arith, total, c, z); flat = omega (arith, i, o, f) }
@@ -226,14 +226,14 @@ good_group own x d ms m z g =
 good_call : (own : Addr) (f : Fun) (xs : Exprs) (d : ℕ) (ms : List Mark) (m : Mark) → m.nodes ≡ 0 → GoodArguments own f 0 xs (suc d) ms → Good own OPERAND_LEVEL (Call f xs) d (node ∷ m ∷ (ms ++ quiet ∷ []))
 good_call own f xs d ms m z g =
     let total = total-append ms (quiet ∷ []) in
-    let i = in_level 5 (Call f xs) (levels (Call f xs)) (omega arith) in
+    let i = in_level OPERAND_LEVEL (Call f xs) (levels (Call f xs)) (omega arith) in
     let k = g.flat in
     let c = g.counts in
     record { shape = g.shape; counts = omega (arith, total, c, z); flat = omega (arith, i, k) }
 
 good_sign : (own : Addr) (s : Sign) (x : Expr) (d : ℕ) (ms : List Mark) (m : Mark) → m.nodes ≡ 1 → Good own SIGN_LEVEL x (suc d) ms → Good own SIGN_LEVEL (Unary s x) d (m ∷ ms)
 good_sign own s x d ms m z g =
-    let i = in_level 4 (Unary s x) (levels (Unary s x)) (omega arith) in
+    let i = in_level SIGN_LEVEL (Unary s x) (levels (Unary s x)) (omega arith) in
     let f = g.flat in
     let c = g.counts in
     record { shape = g.shape; counts = omega (arith, c, z); flat = omega (arith, i, f) }
@@ -241,28 +241,35 @@ good_sign own s x d ms m z g =
 module _ (own : Addr) where
   mutual
     good-expression : (e : Expression) (d : ℕ) → Fits true e → d ≤ MAX_LEVELS → Fine (spelling e) (marks e d) → Good own COMPARISON_LEVEL (meaning own e) d (marks e d)
-    good-expression (only_sum s) d fit h f = good_weaker own 1 (sums_meaning own s) d (sums_marks s d) (good-sums s d fit h f)
-    good-expression (compare e op s) d fit h f =
-        good_operator own 1 op (meaning own e) (sums_meaning own s) d (marks e d) (sums_marks s d) fit.1
-        (good-expression e d fit.0 h (fine_front (spelling e) (Token.Operator op ∷ sums_spelling s) (marks e d) (node ∷ sums_marks s d) f))
-        (good-sums s d fit.2 h (fine_tail (Token.Operator op) (sums_spelling s) node (sums_marks s d) (fine_back (spelling e) (Token.Operator op ∷ sums_spelling s) (marks e d) (node ∷ sums_marks s d) f)))
+    good-expression (only_joins j) d fit h f = good_weaker own COMPARISON_LEVEL (joins_meaning own j) d (joins_marks j d) (good-joins j d fit h f)
+    good-expression (compare e op j) d fit h f =
+        good_operator own COMPARISON_LEVEL op (meaning own e) (joins_meaning own j) d (marks e d) (joins_marks j d) fit.1
+        (good-expression e d fit.0 h (fine_front (spelling e) (Token.Operator op ∷ joins_spelling j) (marks e d) (node ∷ joins_marks j d) f))
+        (good-joins j d fit.2 h (fine_tail (Token.Operator op) (joins_spelling j) node (joins_marks j d) (fine_back (spelling e) (Token.Operator op ∷ joins_spelling j) (marks e d) (node ∷ joins_marks j d) f)))
+
+    good-joins : (j : Joins) (d : ℕ) → JoinsFit true j → d ≤ MAX_LEVELS → Fine (joins_spelling j) (joins_marks j d) → Good own JOIN_LEVEL (joins_meaning own j) d (joins_marks j d)
+    good-joins (only_sum s) d fit h f = good_weaker own JOIN_LEVEL (sums_meaning own s) d (sums_marks s d) (good-sums s d fit h f)
+    good-joins (join j op s) d fit h f =
+        good_operator own JOIN_LEVEL op (joins_meaning own j) (sums_meaning own s) d (joins_marks j d) (sums_marks s d) fit.1
+        (good-joins j d fit.0 h (fine_front (joins_spelling j) (Token.Operator op ∷ sums_spelling s) (joins_marks j d) (node ∷ sums_marks s d) f))
+        (good-sums s d fit.2 h (fine_tail (Token.Operator op) (sums_spelling s) node (sums_marks s d) (fine_back (joins_spelling j) (Token.Operator op ∷ sums_spelling s) (joins_marks j d) (node ∷ sums_marks s d) f)))
 
     good-sums : (s : Sums) (d : ℕ) → SumsFit true s → d ≤ MAX_LEVELS → Fine (sums_spelling s) (sums_marks s d) → Good own SUM_LEVEL (sums_meaning own s) d (sums_marks s d)
-    good-sums (only_term t) d fit h f = good_weaker own 2 (term_meaning own t) d (term_marks t d) (good-term t d fit h f)
+    good-sums (only_term t) d fit h f = good_weaker own SUM_LEVEL (term_meaning own t) d (term_marks t d) (good-term t d fit h f)
     good-sums (add s op t) d fit h f =
-        good_operator own 2 op (sums_meaning own s) (term_meaning own t) d (sums_marks s d) (term_marks t d) fit.1
+        good_operator own SUM_LEVEL op (sums_meaning own s) (term_meaning own t) d (sums_marks s d) (term_marks t d) fit.1
         (good-sums s d fit.0 h (fine_front (sums_spelling s) (Token.Operator op ∷ term_spelling t) (sums_marks s d) (node ∷ term_marks t d) f))
         (good-term t d fit.2 h (fine_tail (Token.Operator op) (term_spelling t) node (term_marks t d) (fine_back (sums_spelling s) (Token.Operator op ∷ term_spelling t) (sums_marks s d) (node ∷ term_marks t d) f)))
 
     good-term : (t : Term) (d : ℕ) → TermFits true t → d ≤ MAX_LEVELS → Fine (term_spelling t) (term_marks t d) → Good own TERM_LEVEL (term_meaning own t) d (term_marks t d)
-    good-term (only_signed s) d fit h f = good_weaker own 3 (signed_meaning own s) d (signed_marks s d) (good-signed s d fit h f)
+    good-term (only_signed s) d fit h f = good_weaker own TERM_LEVEL (signed_meaning own s) d (signed_marks s d) (good-signed s d fit h f)
     good-term (multiply t op s) d fit h f =
-        good_operator own 3 op (term_meaning own t) (signed_meaning own s) d (term_marks t d) (signed_marks s d) fit.1
+        good_operator own TERM_LEVEL op (term_meaning own t) (signed_meaning own s) d (term_marks t d) (signed_marks s d) fit.1
         (good-term t d fit.0 h (fine_front (term_spelling t) (Token.Operator op ∷ signed_spelling s) (term_marks t d) (node ∷ signed_marks s d) f))
         (good-signed s d fit.2 h (fine_tail (Token.Operator op) (signed_spelling s) node (signed_marks s d) (fine_back (term_spelling t) (Token.Operator op ∷ signed_spelling s) (term_marks t d) (node ∷ signed_marks s d) f)))
 
     good-signed : (s : Signed) (d : ℕ) → SignedFits true s → d ≤ MAX_LEVELS → Fine (signed_spelling s) (signed_marks s d) → Good own SIGN_LEVEL (signed_meaning own s) d (signed_marks s d)
-    good-signed (plain p) d fit h f = good_weaker own 4 (primary_meaning own p) d (primary_marks p d) (good-primary p d fit h f)
+    good-signed (plain p) d fit h f = good_weaker own SIGN_LEVEL (primary_meaning own p) d (primary_marks p d) (good-primary p d fit h f)
     good-signed (signed sign s) d fit h f =
         good_sign own sign (signed_meaning own s) d (signed_marks s (suc d)) _ refl (good-signed s (suc d) fit f.low.0 (fine_tail (Token.Operator (sign_op sign)) (signed_spelling s) _ (signed_marks s (suc d)) f))
 

@@ -1,8 +1,8 @@
 -- Tokens have one meaning.
-use Rattle.std.proofs.Common.{◌≡◌, ℕ, suc, ◌<◌, ◌≤◌, List, [], ◌∷◌, ◌++◌, true, cond, Option, Some, None, nat_le, le-leb, refl, sym, ap, ◌∙◌, subst, arith, append_assoc, ⊎_elim}
+use Rattle.std.proofs.Common.{◌≡◌, ℕ, suc, ◌<◌, ◌≤◌, List, [], ◌∷◌, ◌++◌, true, cond, Option, Some, None, nat_le, le-leb, refl, sym, ap, ◌∙◌, subst, arith, append_assoc}
 use Rattle.std.proofs.lemmas.Bool.{lt-leb}
 use Rattle.cell_values.specs.declared.address.Addr.{Addr}
-use Rattle.formula_trees.specs.declared.levels.TheConstants.{COMPARISON_LEVEL, SUM_LEVEL, TERM_LEVEL}
+use Rattle.formula_trees.specs.declared.levels.TheConstants.{COMPARISON_LEVEL, JOIN_LEVEL, SUM_LEVEL, TERM_LEVEL}
 use Rattle.formula_trees.specs.declared.tree.Fun.{Fun}
 use Rattle.formula_trees.specs.declared.tree.Op.{Op}
 use Rattle.formula_trees.specs.declared.tree.Sign.{Sign}
@@ -10,10 +10,10 @@ use Rattle.formula_trees.specs.Expr.{Expr, Exprs, Ref, Range, RefError, Unary, B
 use Rattle.formula_trees.specs.Sound.{op_level}
 use Rattle.formula_tokens.specs.declared.token.Token.{Token}
 use Rattle.formula_tokens.specs.declared.token.Word.{Word}
-use Rattle.formula_grammar.specs.Syntax.{here, on_sheet, Expression, only_sum, compare, Sums, only_term, add, Term, only_signed, multiply, Signed, plain, signed, Primary, literal, reference, group, call_none, call, Arguments, last, more, Argument, value, cell, area, lone, spelling, sums_spelling, term_spelling, signed_spelling, primary_spelling, arguments_spelling, argument_spelling, literal_meaning, reference_at, call_meaning, meaning, sums_meaning, term_meaning, signed_meaning, primary_meaning, arguments_meaning, argument_meaning, Fits, SumsFit, TermFits, SignedFits, PrimaryFits, ArgumentsFit, ArgumentFits}
+use Rattle.formula_grammar.specs.Syntax.{here, on_sheet, Expression, only_joins, compare, Joins, only_sum, join, Sums, only_term, add, Term, only_signed, multiply, Signed, plain, signed, Primary, literal, reference, group, call_none, call, Arguments, last, more, Argument, value, cell, area, lone, spelling, joins_spelling, sums_spelling, term_spelling, signed_spelling, primary_spelling, arguments_spelling, argument_spelling, literal_meaning, reference_at, call_meaning, meaning, joins_meaning, sums_meaning, term_meaning, signed_meaning, primary_meaning, arguments_meaning, argument_meaning, Fits, JoinsFit, SumsFit, TermFits, SignedFits, PrimaryFits, ArgumentsFit, ArgumentFits}
 use Rattle.formula_grammar.specs.Steps.{sign_of}
 use Rattle.formula_grammar.proofs.Walk.{IsFirst, Starts, starts_arguments}
-use Rattle.formula_grammar.proofs.Follows.{level_cases}
+use Rattle.formula_grammar.proofs.Follows.{level_within}
 
 -- what waits for an operand: a left side, a sign, a parenthesis, or a call with the arguments before it
 data Pending : Type 0 where
@@ -112,20 +112,14 @@ abbrev head_level : List Token → ℕ
 head_level [] = 0
 head_level (t ∷ ts) = token_level t
 
-level_to_3 : (op : Op) → op_level op ≤ TERM_LEVEL
-level_to_3 op = ⊎_elim (λ e. omega (arith, e)) (λ r. ⊎_elim (λ e. omega (arith, e)) (λ e. omega (arith, e)) r) (level_cases op)
-
-level_from_1 : (op : Op) → 1 ≤ op_level op
-level_from_1 op = ⊎_elim (λ e. omega (arith, e)) (λ r. ⊎_elim (λ e. omega (arith, e)) (λ e. omega (arith, e)) r) (level_cases op)
-
-at_most_3 : (u : List Token) → head_level u ≤ TERM_LEVEL
-at_most_3 [] = omega arith
-at_most_3 (Token.Operator op ∷ u) = level_to_3 op
-at_most_3 (t ∷ u) = omega arith
+at_most_term : (u : List Token) → head_level u ≤ TERM_LEVEL
+at_most_term [] = omega arith
+at_most_term (Token.Operator op ∷ u) = (level_within op).1
+at_most_term (t ∷ u) = omega arith
 
 barrier : (st : List Pending) → Below COMPARISON_LEVEL st → Below 0 st
 barrier [] b = tt
-barrier (left y op ∷ st) b = let x = level_from_1 op in absurd (omega (arith, b, x))
+barrier (left y op ∷ st) b = let x = (level_within op).0 in absurd (omega (arith, b, x))
 barrier (sign s ∷ st) b = absurd b
 barrier (grouping ∷ st) b = tt
 barrier (calling f before ∷ st) b = tt
@@ -196,16 +190,25 @@ module _ (own : Addr) where
 
   mutual
     build-expression : (e : Expression) (u : List Token) (st : List Pending) → Fits true e → head_level u ≤ COMPARISON_LEVEL → Below COMPARISON_LEVEL st → build (spelling e ++ u) st want ≡ build u st (have (meaning own e))
-    build-expression (only_sum s) u st fit h b = build-sums s u st fit (omega (arith, h)) (below_more 1 2 st (omega arith) b)
-    build-expression (compare e op s) u st fit h b =
-        ap (λ ts. build ts st want) (append_assoc (spelling e) (Token.Operator op ∷ sums_spelling s) u)
-        ∙ build-expression e (Token.Operator op ∷ (sums_spelling s ++ u)) st fit.0 (omega (arith, fit.1)) b
-        ∙ take_operator op (sums_spelling s ++ u) st (meaning own e) (subst (λ n. Below n st) (sym fit.1) b)
-        ∙ build-sums s u (left (meaning own e) op ∷ st) fit.2 (omega (arith, h)) (omega (arith, fit.1))
+    build-expression (only_joins j) u st fit h b = build-joins j u st fit (omega (arith, h)) (below_more COMPARISON_LEVEL JOIN_LEVEL st (omega arith) b)
+    build-expression (compare e op j) u st fit h b =
+        ap (λ ts. build ts st want) (append_assoc (spelling e) (Token.Operator op ∷ joins_spelling j) u)
+        ∙ build-expression e (Token.Operator op ∷ (joins_spelling j ++ u)) st fit.0 (omega (arith, fit.1)) b
+        ∙ take_operator op (joins_spelling j ++ u) st (meaning own e) (subst (λ n. Below n st) (sym fit.1) b)
+        ∙ build-joins j u (left (meaning own e) op ∷ st) fit.2 (omega (arith, h)) (omega (arith, fit.1))
+        ∙ give_left u st _ _ op (omega (arith, fit.1, h))
+
+    build-joins : (j : Joins) (u : List Token) (st : List Pending) → JoinsFit true j → head_level u ≤ JOIN_LEVEL → Below JOIN_LEVEL st → build (joins_spelling j ++ u) st want ≡ build u st (have (joins_meaning own j))
+    build-joins (only_sum s) u st fit h b = build-sums s u st fit (omega (arith, h)) (below_more JOIN_LEVEL SUM_LEVEL st (omega arith) b)
+    build-joins (join j op s) u st fit h b =
+        ap (λ ts. build ts st want) (append_assoc (joins_spelling j) (Token.Operator op ∷ sums_spelling s) u)
+        ∙ build-joins j (Token.Operator op ∷ (sums_spelling s ++ u)) st fit.0 (omega (arith, fit.1)) b
+        ∙ take_operator op (sums_spelling s ++ u) st (joins_meaning own j) (subst (λ n. Below n st) (sym fit.1) b)
+        ∙ build-sums s u (left (joins_meaning own j) op ∷ st) fit.2 (omega (arith, h)) (omega (arith, fit.1))
         ∙ give_left u st _ _ op (omega (arith, fit.1, h))
 
     build-sums : (s : Sums) (u : List Token) (st : List Pending) → SumsFit true s → head_level u ≤ SUM_LEVEL → Below SUM_LEVEL st → build (sums_spelling s ++ u) st want ≡ build u st (have (sums_meaning own s))
-    build-sums (only_term t) u st fit h b = build-term t u st fit (below_more 2 3 st (omega arith) b)
+    build-sums (only_term t) u st fit h b = build-term t u st fit (below_more SUM_LEVEL TERM_LEVEL st (omega arith) b)
     build-sums (add s op t) u st fit h b =
         ap (λ ts. build ts st want) (append_assoc (sums_spelling s) (Token.Operator op ∷ term_spelling t) u)
         ∙ build-sums s (Token.Operator op ∷ (term_spelling t ++ u)) st fit.0 (omega (arith, fit.1)) b
@@ -220,7 +223,7 @@ module _ (own : Addr) where
         ∙ build-term t (Token.Operator op ∷ (signed_spelling s ++ u)) st fit.0 b
         ∙ take_operator op (signed_spelling s ++ u) st (term_meaning own t) (subst (λ n. Below n st) (sym fit.1) b)
         ∙ build-signed s u (left (term_meaning own t) op ∷ st) fit.2
-        ∙ give_left u st _ _ op (omega (arith, fit.1, at_most_3 u))
+        ∙ give_left u st _ _ op (omega (arith, fit.1, at_most_term u))
 
     build-signed : (s : Signed) (u : List Token) (st : List Pending) → SignedFits true s → build (signed_spelling s ++ u) st want ≡ build u st (have (signed_meaning own s))
     build-signed (plain p) u st fit = build-primary p u st fit

@@ -6,7 +6,7 @@ use Rattle.formula_trees.specs.declared.functions.Kind.{Kind}
 use Rattle.formula_trees.specs.declared.functions.Kind.TheVariants.{Plain, Place, Many, Exact}
 use Rattle.formula_tokens.specs.declared.token.Token.{Token}
 use Rattle.formula_tokens.specs.declared.token.Word.{Word}
-use Rattle.formula_grammar.specs.Syntax.{Mark, quiet, node, opening, signing, sized, cells_between, kind_at, are_enough, may_go_on, is_ref_error, is_exact, Target, here, on_sheet, Expression, only_sum, compare, Sums, only_term, add, Term, only_signed, multiply, Signed, plain, signed, Primary, literal, reference, group, call_none, call, Arguments, last, more, Argument, value, cell, area, lone, sign_op, target_spelling, spelling, sums_spelling, term_spelling, signed_spelling, primary_spelling, arguments_spelling, argument_spelling, marks, sums_marks, term_marks, signed_marks, primary_marks, arguments_marks, argument_marks, counted, IsOfKind, Fits, SumsFit, TermFits, SignedFits, PrimaryFits, ArgumentsFit, ArgumentFits}
+use Rattle.formula_grammar.specs.Syntax.{Mark, quiet, node, opening, signing, sized, cells_between, kind_at, are_enough, may_go_on, is_ref_error, is_exact, Target, here, on_sheet, Expression, only_joins, compare, Joins, only_sum, join, Sums, only_term, add, Term, only_signed, multiply, Signed, plain, signed, Primary, literal, reference, group, call_none, call, Arguments, last, more, Argument, value, cell, area, lone, sign_op, target_spelling, spelling, joins_spelling, sums_spelling, term_spelling, signed_spelling, primary_spelling, arguments_spelling, argument_spelling, marks, joins_marks, sums_marks, term_marks, signed_marks, primary_marks, arguments_marks, argument_marks, counted, IsOfKind, Fits, JoinsFit, SumsFit, TermFits, SignedFits, PrimaryFits, ArgumentsFit, ArgumentFits}
 use Rattle.formula_grammar.specs.Steps.{Frame, in_group, in_call, State, operand, operator, opened, argument, sheet, corner, ended, Move, if_counted, on_lone, move, mark_at, open_levels}
 
 -- a walk: it is stuck, it has come to a state, or the next token has a mark and it goes on
@@ -82,9 +82,13 @@ begins_sums : (s : Sums) (u : List Token) → NoColon u → Begins (sums_spellin
 begins_sums (only_term t) u h = begins_term t u h
 begins_sums (add s op t) u h = begins-assoc (sums_spelling s) (Token.Operator op ∷ term_spelling t) u (begins_sums s _ tt)
 
+begins_joins : (j : Joins) (u : List Token) → NoColon u → Begins (joins_spelling j ++ u)
+begins_joins (only_sum s) u h = begins_sums s u h
+begins_joins (join j op s) u h = begins-assoc (joins_spelling j) (Token.Operator op ∷ sums_spelling s) u (begins_joins j _ tt)
+
 pub begins_expression : (e : Expression) (u : List Token) → NoColon u → Begins (spelling e ++ u)
-begins_expression (only_sum s) u h = begins_sums s u h
-begins_expression (compare e op s) u h = begins-assoc (spelling e) (Token.Operator op ∷ sums_spelling s) u (begins_expression e _ tt)
+begins_expression (only_joins j) u h = begins_joins j u h
+begins_expression (compare e op j) u h = begins-assoc (spelling e) (Token.Operator op ∷ joins_spelling j) u (begins_expression e _ tt)
 
 -- what ends an argument
 abbrev pub IsCloser : Token → Type 0
@@ -189,12 +193,20 @@ module _ (strict : Bool) where
 
   mutual
     pub walk-expression : (e : Expression) (fs : List Frame) (d : ℕ) (u : List Token) → d ≡ open_levels fs → Fits strict e → walk strict (spelling e ++ u) (operand 0 fs) ≡ prefixed (marks e d) (walk strict u (operator fs))
-    walk-expression (only_sum s) fs d u h fit = walk-sums s fs d u h fit
-    walk-expression (compare e op s) fs d u h fit =
-        ap (λ ts. walk strict ts (operand 0 fs)) (append_assoc (spelling e) (Token.Operator op ∷ sums_spelling s) u)
-        ∙ walk-expression e fs d (Token.Operator op ∷ (sums_spelling s ++ u)) h fit.0
-        ∙ ap (prefixed (marks e d)) (ap (opens node) (walk-sums s fs d u h fit.2))
-        ∙ sym (prefixed-append (marks e d) (node ∷ sums_marks s d) (walk strict u (operator fs)))
+    walk-expression (only_joins j) fs d u h fit = walk-joins j fs d u h fit
+    walk-expression (compare e op j) fs d u h fit =
+        ap (λ ts. walk strict ts (operand 0 fs)) (append_assoc (spelling e) (Token.Operator op ∷ joins_spelling j) u)
+        ∙ walk-expression e fs d (Token.Operator op ∷ (joins_spelling j ++ u)) h fit.0
+        ∙ ap (prefixed (marks e d)) (ap (opens node) (walk-joins j fs d u h fit.2))
+        ∙ sym (prefixed-append (marks e d) (node ∷ joins_marks j d) (walk strict u (operator fs)))
+
+    walk-joins : (j : Joins) (fs : List Frame) (d : ℕ) (u : List Token) → d ≡ open_levels fs → JoinsFit strict j → walk strict (joins_spelling j ++ u) (operand 0 fs) ≡ prefixed (joins_marks j d) (walk strict u (operator fs))
+    walk-joins (only_sum s) fs d u h fit = walk-sums s fs d u h fit
+    walk-joins (join j op s) fs d u h fit =
+        ap (λ ts. walk strict ts (operand 0 fs)) (append_assoc (joins_spelling j) (Token.Operator op ∷ sums_spelling s) u)
+        ∙ walk-joins j fs d (Token.Operator op ∷ (sums_spelling s ++ u)) h fit.0
+        ∙ ap (prefixed (joins_marks j d)) (ap (opens node) (walk-sums s fs d u h fit.2))
+        ∙ sym (prefixed-append (joins_marks j d) (node ∷ sums_marks s d) (walk strict u (operator fs)))
 
     walk-sums : (s : Sums) (fs : List Frame) (d : ℕ) (u : List Token) → d ≡ open_levels fs → SumsFit strict s → walk strict (sums_spelling s ++ u) (operand 0 fs) ≡ prefixed (sums_marks s d) (walk strict u (operator fs))
     walk-sums (only_term t) fs d u h fit = walk-term t fs d u h fit

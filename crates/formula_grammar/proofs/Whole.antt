@@ -14,11 +14,12 @@ use Rattle.formula_grammar.specs.FaultKinds.{number_of}
 use Rattle.formula_grammar.specs.Steps.{operand, operator, finished, accepted, fault, run, at_end, move}
 use Rattle.formula_grammar.specs.Rest.{Rest, next_of, next_token, next_place, behind_next, misfit, token_level}
 use Rattle.formula_grammar.specs.Parts.{Fails, ReadsExpression}
+use Rattle.formula_grammar.proofs.Follows.{level_within}
 use Rattle.formula_grammar.proofs.Verdict.{run_fault}
 use Rattle.formula_grammar.proofs.Accepted.{step_passes, reads_accepted, accepted_reads}
 use Rattle.formula_grammar.proofs.Unique.{one_meaning}
 use Rattle.formula_grammar.proofs.Law.{tokens_of-append}
-use Rattle.formula_grammar.proofs.Reading.{Took, fails_by, fails_misfit, level_from_1, run_quiet}
+use Rattle.formula_grammar.proofs.Reading.{Took, fails_by, fails_misfit, run_quiet}
 
 pub one_tree : (own : Addr) (ts : List Token) (x y : Expr) → Reads own ts x → Reads own ts y → x ≡ y
 one_tree own ts x y a b = sym a.means ∙ one_meaning own a.expression b.expression a.fits b.fits (a.spelled ∙ sym b.spelled) ∙ b.means
@@ -58,7 +59,7 @@ behind_end own ts end new mid x e a ne h m b =
     fails_by _ _ e (a.runs [] refl ∙ run_quiet Token.End new mid (operator []) finished took refl refl refl refl) (fails_misfit mid e finished b refl)
 
 top_stuck : (t : Token) → token_level t ≡ 0 → t ≢ Token.End → move true (operator []) t ≡ Err FaultKind.Misplaced
-top_stuck (Token.Operator op) h n = let x = level_from_1 op in absurd (omega (arith, h, x))
+top_stuck (Token.Operator op) h n = let x = (level_within op).0 in absurd (omega (arith, h, x))
 top_stuck Token.End h n = absurd (n refl)
 top_stuck t h n = refl
 

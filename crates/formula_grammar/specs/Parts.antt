@@ -14,7 +14,7 @@ use Rattle.formula_grammar.specs.declared.faults.FormulaFault.{FormulaFault}
 use Rattle.formula_grammar.specs.declared.faults.FormulaFault.TheVariants.{Bad, OutOfMemory}
 use Rattle.formula_grammar.specs.Fault.{corner_fault}
 use Rattle.formula_grammar.specs.Rest.{Rest, next_token, tokens_left, run_rest, begins_target}
-use Rattle.formula_grammar.specs.Syntax.{node, quiet, kind_at, Target, here, on_sheet, Expression, Sums, Term, Signed, Primary, Arguments, Argument, target_spelling, spelling, sums_spelling, term_spelling, signed_spelling, primary_spelling, arguments_spelling, argument_spelling, Fits, SumsFit, TermFits, SignedFits, PrimaryFits, ArgumentsFit, ArgumentFits, IsOfKind, is_alone, literal_meaning, reference_at, meaning, sums_meaning, term_meaning, signed_meaning, primary_meaning, arguments_meaning, argument_meaning}
+use Rattle.formula_grammar.specs.Syntax.{node, quiet, kind_at, Target, here, on_sheet, Expression, Joins, Sums, Term, Signed, Primary, Arguments, Argument, target_spelling, spelling, joins_spelling, sums_spelling, term_spelling, signed_spelling, primary_spelling, arguments_spelling, argument_spelling, Fits, JoinsFit, SumsFit, TermFits, SignedFits, PrimaryFits, ArgumentsFit, ArgumentFits, IsOfKind, is_alone, literal_meaning, reference_at, meaning, joins_meaning, sums_meaning, term_meaning, signed_meaning, primary_meaning, arguments_meaning, argument_meaning}
 use Rattle.formula_grammar.specs.Steps.{Frame, in_call, State, operand, operator, argument, sheet, corner, colon, ended, landed, move, mark_at, open_levels, Outcome, fault}
 
 -- the run ends in the fault, unless memory ran out
@@ -57,6 +57,13 @@ pub record ReadsExpression (own : Addr) (depth : ℕ) (old new : Rest) (tree : E
   pub fits : Fits true part
   pub spelled : tokens_left old ≡ spelling part ++ tokens_left new
   pub means : tree ≡ meaning own part
+  pub runs : RunsOperand depth old new
+
+pub record ReadsJoins (own : Addr) (depth : ℕ) (old new : Rest) (tree : Expr) : Type 0 where
+  pub part : Joins
+  pub fits : JoinsFit true part
+  pub spelled : tokens_left old ≡ joins_spelling part ++ tokens_left new
+  pub means : tree ≡ joins_meaning own part
   pub runs : RunsOperand depth old new
 
 pub record ReadsSums (own : Addr) (depth : ℕ) (old new : Rest) (tree : Expr) : Type 0 where

@@ -56,6 +56,7 @@ sign_of Op.Add = Some Sign.Plus
 sign_of Op.Sub = Some Sign.Minus
 sign_of Op.Mul = None
 sign_of Op.Div = None
+sign_of Op.Join = None
 sign_of Op.Eq = None
 sign_of Op.Ne = None
 sign_of Op.Lt = None

@@ -10,7 +10,7 @@ use Rattle.formula_trees.specs.Expr.{Expr, Exprs, Number, Text, Truth, Ref, Rang
 use Rattle.formula_trees.specs.declared.functions.Kind.{Kind}
 use Rattle.formula_trees.specs.declared.functions.Kind.TheVariants.{Plain, Place, Many, Exact}
 use Rattle.formula_trees.specs.Functions.{kind_of, enough, takes_more}
-use Rattle.formula_trees.specs.declared.levels.TheConstants.{COMPARISON_LEVEL, SUM_LEVEL, TERM_LEVEL}
+use Rattle.formula_trees.specs.declared.levels.TheConstants.{COMPARISON_LEVEL, JOIN_LEVEL, SUM_LEVEL, TERM_LEVEL}
 use Rattle.formula_trees.specs.Sound.{op_level}
 use Rattle.formula_tokens.specs.declared.token.Coordinate.{Coordinate}
 use Rattle.formula_tokens.specs.declared.token.Literal.{Literal}
@@ -25,8 +25,12 @@ pub data Target : Type 0 where
 -- a formula as it is written; operators of one level are taken from the left
 mutual
   pub data Expression : Type 0 where
-    only_sum : Sums → Expression
-    compare : Expression → Op → Sums → Expression
+    only_joins : Joins → Expression
+    compare : Expression → Op → Joins → Expression
+
+  pub data Joins : Type 0 where
+    only_sum : Sums → Joins
+    join : Joins → Op → Sums → Joins
 
   pub data Sums : Type 0 where
     only_term : Term → Sums
@@ -70,8 +74,12 @@ target_spelling (on_sheet s w) = Token.Prefix s ∷ Token.SheetReference w ∷ [
 -- the tokens
 abbrev mutual
   pub spelling : Expression → List Token
-  spelling (only_sum s) = sums_spelling s
-  spelling (compare e op s) = spelling e ++ Token.Operator op ∷ sums_spelling s
+  spelling (only_joins j) = joins_spelling j
+  spelling (compare e op j) = spelling e ++ Token.Operator op ∷ joins_spelling j
+
+  pub joins_spelling : Joins → List Token
+  joins_spelling (only_sum s) = sums_spelling s
+  joins_spelling (join j op s) = joins_spelling j ++ Token.Operator op ∷ sums_spelling s
 
   pub sums_spelling : Sums → List Token
   sums_spelling (only_term t) = term_spelling t
@@ -158,8 +166,12 @@ counted true b = IsTrue b
 -- operators stand at their level, and calls have the arguments of the table
 abbrev mutual
   pub Fits : Bool → Expression → Type 0
-  Fits strict (only_sum s) = SumsFit strict s
-  Fits strict (compare e op s) = Fits strict e × (op_level op ≡ COMPARISON_LEVEL) × SumsFit strict s
+  Fits strict (only_joins j) = JoinsFit strict j
+  Fits strict (compare e op j) = Fits strict e × (op_level op ≡ COMPARISON_LEVEL) × JoinsFit strict j
+
+  pub JoinsFit : Bool → Joins → Type 0
+  JoinsFit strict (only_sum s) = SumsFit strict s
+  JoinsFit strict (join j op s) = JoinsFit strict j × (op_level op ≡ JOIN_LEVEL) × SumsFit strict s
 
   pub SumsFit : Bool → Sums → Type 0
   SumsFit strict (only_term t) = TermFits strict t
@@ -237,8 +249,12 @@ target_marks (on_sheet s w) = quiet ∷ node ∷ []
 -- the tokens' marks, where d levels are open
 abbrev mutual
   pub marks : Expression → ℕ → List Mark
-  marks (only_sum s) d = sums_marks s d
-  marks (compare e op s) d = marks e d ++ node ∷ sums_marks s d
+  marks (only_joins j) d = joins_marks j d
+  marks (compare e op j) d = marks e d ++ node ∷ joins_marks j d
+
+  pub joins_marks : Joins → ℕ → List Mark
+  joins_marks (only_sum s) d = sums_marks s d
+  joins_marks (join j op s) d = joins_marks j d ++ node ∷ sums_marks s d
 
   pub sums_marks : Sums → ℕ → List Mark
   sums_marks (only_term t) d = term_marks t d
@@ -304,8 +320,12 @@ call_meaning None args = RefError
 -- the tree, at the formula's cell
 abbrev mutual
   pub meaning : Addr → Expression → Expr
-  meaning at (only_sum s) = sums_meaning at s
-  meaning at (compare e op s) = Binary op (meaning at e) (sums_meaning at s)
+  meaning at (only_joins j) = joins_meaning at j
+  meaning at (compare e op j) = Binary op (meaning at e) (joins_meaning at j)
+
+  pub joins_meaning : Addr → Joins → Expr
+  joins_meaning at (only_sum s) = sums_meaning at s
+  joins_meaning at (join j op s) = Binary op (joins_meaning at j) (sums_meaning at s)
 
   pub sums_meaning : Addr → Sums → Expr
   sums_meaning at (only_term t) = term_meaning at t

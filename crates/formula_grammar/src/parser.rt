@@ -8,14 +8,14 @@ ghost use Rattle.formula_trees.specs.declared.TheConstants.{MAX_NODES};
 ghost use Rattle.formula_grammar.specs.Fault.{Reads, own_fault, named_fault, corner_fault, tokens_of};
 ghost use Rattle.formula_grammar.specs.Steps.{operand, run};
 ghost use Rattle.formula_grammar.specs.Rest.{next_token, next_place, behind_next, tokens_left, misfit, token_level, sign_token, begins_target, begins_colon, range_ahead, sheet_range_ahead};
-ghost use Rattle.formula_grammar.specs.Parts.{Fails, FailsNode, FailsOperand, FailsSigned, FailsArguments, FailsArgument, FailsAlone, FailsTarget, FailsSecond, FailsSheetWord, FailsSecondWord, ReadsExpression, ReadsSums, ReadsTerm, ReadsSigned, ReadsPrimary, ReadsArguments, ReadsArgument, ReadsAlone, ReadsLone, ReadsTarget, ReadsSecond, ReadsSheetWord, ReadsSecondWord};
+ghost use Rattle.formula_grammar.specs.Parts.{Fails, FailsNode, FailsOperand, FailsSigned, FailsArguments, FailsArgument, FailsAlone, FailsTarget, FailsSecond, FailsSheetWord, FailsSecondWord, ReadsExpression, ReadsJoins, ReadsSums, ReadsTerm, ReadsSigned, ReadsPrimary, ReadsArguments, ReadsArgument, ReadsAlone, ReadsLone, ReadsTarget, ReadsSecond, ReadsSheetWord, ReadsSecondWord};
 
 use crate::faults::{FaultKind, FormulaFault, misfit, named_fault, own_fault};
 use crate::kinds::is_alone;
 use crate::meanings::{is_too_large, literal_tree, operator_at, reference_at, sign_at};
 use cell_values::Addr;
 use formula_tokens::{Literal, Spot, Token, Word};
-use formula_trees::levels::{COMPARISON_LEVEL, SUM_LEVEL, TERM_LEVEL};
+use formula_trees::levels::{COMPARISON_LEVEL, JOIN_LEVEL, SUM_LEVEL, TERM_LEVEL};
 use formula_trees::{
     Args, Fun, Kind, MAX_LEVELS, MAX_NODES, Op, Tree, are_enough, kind_of, may_go_on,
 };
@@ -307,8 +307,26 @@ impl<'a> Reader<'a> {
         ensures next { OnOk result (token_level (next_token self.new) ≡ 0) }
         ensures shorter { OnOk result (length self.new.spots < length self.old.spots) }
     {
-        let mut left = self.sums(alloc, at, depth)?;
+        let mut left = self.joins(alloc, at, depth)?;
         while let Some(op) = operator_at(self.peek(), COMPARISON_LEVEL) {
+            self.take()?;
+            let right = self.joins(alloc, at, depth)?;
+            left = binary(alloc, op, left, right)?;
+        }
+        Ok(left)
+    }
+
+    #[cycle(parts)]
+    fn joins(&mut self, alloc: Global, at: Addr, depth: usize) -> Result<Tree, FormulaFault>
+        requires short { length self.old.spots < 2 ^ 60 }
+        requires on_sheet { IsOnSheet at }
+        ensures ok { IfOk result (λ tree. ReadsJoins at depth self.old self.new (expr_of tree)) }
+        ensures err { IfErr result (λ e. FailsOperand depth self.old e) }
+        ensures next { OnOk result (token_level (next_token self.new) ≤ COMPARISON_LEVEL) }
+        ensures shorter { OnOk result (length self.new.spots < length self.old.spots) }
+    {
+        let mut left = self.sums(alloc, at, depth)?;
+        while let Some(op) = operator_at(self.peek(), JOIN_LEVEL) {
             self.take()?;
             let right = self.sums(alloc, at, depth)?;
             left = binary(alloc, op, left, right)?;
@@ -322,7 +340,7 @@ impl<'a> Reader<'a> {
         requires on_sheet { IsOnSheet at }
         ensures ok { IfOk result (λ tree. ReadsSums at depth self.old self.new (expr_of tree)) }
         ensures err { IfErr result (λ e. FailsOperand depth self.old e) }
-        ensures next { OnOk result (token_level (next_token self.new) ≤ COMPARISON_LEVEL) }
+        ensures next { OnOk result (token_level (next_token self.new) ≤ JOIN_LEVEL) }
         ensures shorter { OnOk result (length self.new.spots < length self.old.spots) }
     {
         let mut left = self.term(alloc, at, depth)?;

@@ -248,6 +248,7 @@ fn op_text(op: Op) -> &'static str
         Op::Sub => "-",
         Op::Mul => "*",
         Op::Div => "/",
+        Op::Join => "&",
         Op::Eq => "=",
         Op::Ne => "<>",
         Op::Lt => "<",

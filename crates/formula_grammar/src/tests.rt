@@ -57,7 +57,16 @@ const FAULTY: &str = "
     =#ref! => 1 1
     =1;2 => 2 1
     =A1! => 1 9
-    =1&2 => 2 1
+    =1? => 2 1
+    =& => 1 2
+    =&1 => 1 2
+    =1& => 3 2
+    =1&&2 => 3 2
+    =1&*2 => 3 2
+    =1&=2 => 3 2
+    =A1:A2&1 => 3 2
+    =SUM(A1:A2&1) => 10 2
+    =1&FOO => 3 3
     =é => 1 1
     =(1.5 => 3 1
     =FOO => 1 3
@@ -85,6 +94,17 @@ const FAULTY: &str = "
     =MOD(1) => 6 5
     =MOD(1,2,3) => 8 5
     =ABS() => 5 5
+    =LEFT() => 6 5
+    =LEFT(1,2,3) => 9 5
+    =LEFT(A1:A2) => 8 2
+    =RIGHT() => 7 5
+    =RIGHT(1,2,3) => 10 5
+    =MID(1,2) => 8 5
+    =MID(1,2,3,4) => 10 5
+    =LEN() => 5 5
+    =LEN(1,2) => 6 5
+    =LEN => 1 3
+    =LEFTS(1) => 1 3
     =INDEX(A1,1) => 11 5
     =INDEX(1,1,1) => 7 2
     =INDEX((A1),1,1) => 7 2
@@ -150,6 +170,22 @@ const PRINTED: &str = "
     =1<(2<3) => =1<(2<3)
     =(1=2)<>(3>=4) => =1=2<>(3>=4)
     =1<=2>3 => =1<=2>3
+    =1&2&3 => =1&2&3
+    =1&(2&3) => =1&(2&3)
+    =(1&2)&3 => =1&2&3
+    =1+2&3-4 => =1+2&3-4
+    =(1+2)&(3-4) => =1+2&3-4
+    =1+(2&3) => =1+(2&3)
+    =(1&2)+3 => =(1&2)+3
+    =(1&2)*3 => =(1&2)*3
+    =1*2&3/4 => =1*2&3/4
+    =1&2=3&4 => =1&2=3&4
+    =(1&2)=(3&4) => =1&2=3&4
+    =1&(2=3)&4 => =1&(2=3)&4
+    =(1<2)&3 => =(1<2)&3
+    =-(1&2) => =-(1&2)
+    =-1&-2 => =-1&-2
+    = a1 & \" \" & b1 => =A1&\" \"&B1
     =007 => =7
     =170141183460469231731687303715884105727 => =170141183460469231731687303715884105727
     =true => =TRUE
@@ -177,6 +213,12 @@ const PRINTED: &str = "
     =MAX(A1) => =MAX(A1)
     =COUNT(1,2) => =COUNT(1,2)
     =ABS(1) => =ABS(1)
+    =left(A1) => =LEFT(A1)
+    =LEFT(A1,2) => =LEFT(A1,2)
+    =Right(\"abc\") => =RIGHT(\"abc\")
+    =RIGHT(A1&B1,1+1) => =RIGHT(A1&B1,1+1)
+    =MID(A1,2,3) => =MID(A1,2,3)
+    =len(A1&B1) => =LEN(A1&B1)
     =MOD(1,2) => =MOD(1,2)
     =QUOTIENT(1,2) => =QUOTIENT(1,2)
     =INDEX(A1:B2,1,2) => =INDEX(A1:B2,1,2)
@@ -196,6 +238,7 @@ const COPIED: &str = "
     =C2+1 => =#REF!+1
     =C4 => =D2
     =$A$1+C4 => =$A$1+D2
+    =C$2&LEFT($A$1,C5) => =D$2&LEFT($A$1,D3)
     =C$2 => =D$2
     =$C4 => =$C2
     =SUM(A3:C3) => =SUM(B1:D1)
@@ -262,25 +305,31 @@ fn expect_printed(
 
 #[test]
 fn tells_the_first_fault(rt: HostRuntime) -> Result<(), Fail> {
+    let mut ran: usize = 0;
     for line in FAULTY.lines() {
         if let Some((text, fault)) = line.trim_start().rsplit_once(" => ") {
             if let Some((place, number)) = fault.split_once(' ') {
                 let place = place.parse().unwrap_or(u32::MAX);
                 expect_fault(&rt, rt.alloc(), text, place, number.parse().unwrap_or(0))?;
+                ran = ran.saturating_add(1);
             }
         }
     }
+    assert_eq!(rt; ran, 122);
     Ok(())
 }
 
 #[test]
 fn prints_what_is_read(rt: HostRuntime) -> Result<(), Fail> {
+    let mut ran: usize = 0;
     for line in PRINTED.lines() {
         if let Some((text, want)) = line.trim_start().split_once(" => ") {
             expect_printed(&rt, rt.alloc(), text, want)?;
             expect_printed(&rt, rt.alloc(), want, want)?;
+            ran = ran.saturating_add(1);
         }
     }
+    assert_eq!(rt; ran, 79);
     Ok(())
 }
 
@@ -310,11 +359,14 @@ fn expect_copied(
 
 #[test]
 fn copies_keep_offsets_and_absolute_parts(rt: HostRuntime) -> Result<(), Fail> {
+    let mut ran: usize = 0;
     for line in COPIED.lines() {
         if let Some((text, want)) = line.trim_start().split_once(" => ") {
             expect_copied(&rt, rt.alloc(), HERE, text, THERE, want)?;
+            ran = ran.saturating_add(1);
         }
     }
+    assert_eq!(rt; ran, 11);
     let from = Addr {
         sheet: 0,
         row: 2,

@@ -26,6 +26,7 @@ op_lexeme names prefixed Op.Add rest h = refl
 op_lexeme names prefixed Op.Sub rest h = refl
 op_lexeme names prefixed Op.Mul rest h = refl
 op_lexeme names prefixed Op.Div rest h = refl
+op_lexeme names prefixed Op.Join rest h = refl
 op_lexeme names prefixed Op.Eq rest h = refl
 op_lexeme names prefixed Op.Ne rest h = refl
 op_lexeme names prefixed Op.Le rest h = refl

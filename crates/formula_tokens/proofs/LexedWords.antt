@@ -19,7 +19,7 @@ use Rattle.formula_tokens.proofs.Lexed.{lexemes_in, one_lexeme}
 
 -- a byte that may follow an operand: `)`, `,`, `:`, or one of an operator
 abbrev pub is_closing : ℕ → Bool
-is_closing b = b == 41 || b == 44 || b == 58 || b == 43 || b == 45 || b == 42 || b == 47 || b == 61 || b == 60 || b == 62
+is_closing b = b == 41 || b == 44 || b == 58 || b == 43 || b == 45 || b == 42 || b == 47 || b == 38 || b == 61 || b == 60 || b == 62
 
 abbrev pub closes : List ℕ → Bool
 closes [] = true
@@ -169,3 +169,7 @@ function_lexeme names Fun.Index rest = call_lexeme names false (function_name Fu
 function_lexeme names Fun.Match rest = call_lexeme names false (function_name Fun.Match) (40 ∷ rest) (Token.Function (Some Fun.Match)) refl refl refl refl refl refl refl
 function_lexeme names Fun.VLookup rest = call_lexeme names false (function_name Fun.VLookup) (40 ∷ rest) (Token.Function (Some Fun.VLookup)) refl refl refl refl refl refl refl
 function_lexeme names Fun.HLookup rest = call_lexeme names false (function_name Fun.HLookup) (40 ∷ rest) (Token.Function (Some Fun.HLookup)) refl refl refl refl refl refl refl
+function_lexeme names Fun.Left rest = call_lexeme names false (function_name Fun.Left) (40 ∷ rest) (Token.Function (Some Fun.Left)) refl refl refl refl refl refl refl
+function_lexeme names Fun.Right rest = call_lexeme names false (function_name Fun.Right) (40 ∷ rest) (Token.Function (Some Fun.Right)) refl refl refl refl refl refl refl
+function_lexeme names Fun.Mid rest = call_lexeme names false (function_name Fun.Mid) (40 ∷ rest) (Token.Function (Some Fun.Mid)) refl refl refl refl refl refl refl
+function_lexeme names Fun.Len rest = call_lexeme names false (function_name Fun.Len) (40 ∷ rest) (Token.Function (Some Fun.Len)) refl refl refl refl refl refl refl

@@ -30,6 +30,10 @@ name_is_upper Fun.Index = refl
 name_is_upper Fun.Match = refl
 name_is_upper Fun.VLookup = refl
 name_is_upper Fun.HLookup = refl
+name_is_upper Fun.Left = refl
+name_is_upper Fun.Right = refl
+name_is_upper Fun.Mid = refl
+name_is_upper Fun.Len = refl
 
 lower_from_upper : (a b : ℕ) → to_ascii_uppercase a ≡ to_ascii_uppercase b → to_ascii_lowercase a ≡ to_ascii_lowercase b
 lower_from_upper a b h = grind (arith, nat_tests)

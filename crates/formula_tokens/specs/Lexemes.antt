@@ -93,9 +93,9 @@ abbrev pub sign_of : ℕ → Token
 sign_of b = if b == 40 then Token.LeftParen else (if b == 41 then Token.RightParen
     else (if b == 44 then Token.Comma else (if b == 58 then Token.Colon
     else (if b == 43 then Token.Operator Op.Add else (if b == 45 then Token.Operator Op.Sub
-    else (if b == 42 then Token.Operator Op.Mul else (if b == 47 then Token.Operator Op.Div
+    else (if b == 42 then Token.Operator Op.Mul else (if b == 47 then Token.Operator Op.Div else (if b == 38 then Token.Operator Op.Join
     else (if b == 61 then Token.Operator Op.Eq else (if b == 60 then Token.Operator Op.Lt
-    else (if b == 62 then Token.Operator Op.Gt else Token.BadCharacter))))))))))
+    else (if b == 62 then Token.Operator Op.Gt else Token.BadCharacter)))))))))))
 
 abbrev pub sign_at : List ℕ → Token
 sign_at [] = Token.BadCharacter

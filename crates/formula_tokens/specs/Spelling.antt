@@ -23,6 +23,7 @@ op_text Op.Add = codes "+"
 op_text Op.Sub = codes "-"
 op_text Op.Mul = codes "*"
 op_text Op.Div = codes "/"
+op_text Op.Join = codes "&"
 op_text Op.Eq = codes "="
 op_text Op.Ne = codes "<>"
 op_text Op.Lt = codes "<"
@@ -86,6 +87,7 @@ ends_operator Op.Add b = true
 ends_operator Op.Sub b = true
 ends_operator Op.Mul b = true
 ends_operator Op.Div b = true
+ends_operator Op.Join b = true
 ends_operator Op.Eq b = true
 ends_operator Op.Ne b = true
 ends_operator Op.Le b = true

@@ -78,9 +78,13 @@ function_name Fun.Index = codes "INDEX"
 function_name Fun.Match = codes "MATCH"
 function_name Fun.VLookup = codes "VLOOKUP"
 function_name Fun.HLookup = codes "HLOOKUP"
+function_name Fun.Left = codes "LEFT"
+function_name Fun.Right = codes "RIGHT"
+function_name Fun.Mid = codes "MID"
+function_name Fun.Len = codes "LEN"
 
 abbrev pub all_functions : List Fun
-all_functions = Fun.If ∷ Fun.And ∷ Fun.Or ∷ Fun.Not ∷ Fun.Choose ∷ Fun.IfError ∷ Fun.IsError ∷ Fun.Sum ∷ Fun.Min ∷ Fun.Max ∷ Fun.Count ∷ Fun.Abs ∷ Fun.Mod ∷ Fun.Quotient ∷ Fun.Index ∷ Fun.Match ∷ Fun.VLookup ∷ Fun.HLookup ∷ []
+all_functions = Fun.If ∷ Fun.And ∷ Fun.Or ∷ Fun.Not ∷ Fun.Choose ∷ Fun.IfError ∷ Fun.IsError ∷ Fun.Sum ∷ Fun.Min ∷ Fun.Max ∷ Fun.Count ∷ Fun.Abs ∷ Fun.Mod ∷ Fun.Quotient ∷ Fun.Index ∷ Fun.Match ∷ Fun.VLookup ∷ Fun.HLookup ∷ Fun.Left ∷ Fun.Right ∷ Fun.Mid ∷ Fun.Len ∷ []
 
 abbrev pub named_in : List Fun → List ℕ → Option Fun
 named_in [] name = None

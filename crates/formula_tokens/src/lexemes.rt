@@ -281,6 +281,7 @@ fn sign(byte: u8) -> Token
         b'-' => Token::Operator(Op::Sub),
         b'*' => Token::Operator(Op::Mul),
         b'/' => Token::Operator(Op::Div),
+        b'&' => Token::Operator(Op::Join),
         b'=' => Token::Operator(Op::Eq),
         b'<' => Token::Operator(Op::Lt),
         b'>' => Token::Operator(Op::Gt),

@@ -12,7 +12,7 @@ use crate::{Coordinate, Corner};
 use formula_trees::Fun;
 
 /// Every function.
-const FUNCTIONS: [Fun; 18] = [
+const FUNCTIONS: [Fun; 22] = [
     Fun::If,
     Fun::And,
     Fun::Or,
@@ -31,6 +31,10 @@ const FUNCTIONS: [Fun; 18] = [
     Fun::Match,
     Fun::VLookup,
     Fun::HLookup,
+    Fun::Left,
+    Fun::Right,
+    Fun::Mid,
+    Fun::Len,
 ];
 
 /// The name of a function, in capitals.
@@ -56,6 +60,10 @@ pub fn function_name(fun: Fun) -> &'static str
         Fun::Match => "MATCH",
         Fun::VLookup => "VLOOKUP",
         Fun::HLookup => "HLOOKUP",
+        Fun::Left => "LEFT",
+        Fun::Right => "RIGHT",
+        Fun::Mid => "MID",
+        Fun::Len => "LEN",
     }
 }
 

@@ -29,6 +29,10 @@ signature_of Fun.Index = takes Place Plain Plain Plain 3 (Some 3)
 signature_of Fun.Match = takes Plain Place Exact Plain 2 (Some 3)
 signature_of Fun.VLookup = takes Plain Place Plain Exact 3 (Some 4)
 signature_of Fun.HLookup = takes Plain Place Plain Exact 3 (Some 4)
+signature_of Fun.Left = takes Plain Plain Plain Plain 1 (Some 2)
+signature_of Fun.Right = takes Plain Plain Plain Plain 1 (Some 2)
+signature_of Fun.Mid = takes Plain Plain Plain Plain 3 (Some 3)
+signature_of Fun.Len = takes Plain Plain Plain Plain 1 (Some 1)
 
 -- a first argument of one kind, then a second of another, then a third, then all others
 abbrev pub kinds : Kind → Kind → Kind → Kind → ℕ → Kind

@@ -12,7 +12,7 @@ use Rattle.formula_trees.specs.References.{resolve, area_of}
 use Rattle.formula_trees.specs.declared.functions.Kind.{Kind}
 use Rattle.formula_trees.specs.declared.functions.Kind.TheVariants.{Plain, Place, Many, Exact}
 use Rattle.formula_trees.specs.declared.TheConstants.{MAX_NODES, MAX_LEVELS}
-use Rattle.formula_trees.specs.declared.levels.TheConstants.{COMPARISON_LEVEL, SUM_LEVEL, TERM_LEVEL, SIGN_LEVEL, OPERAND_LEVEL}
+use Rattle.formula_trees.specs.declared.levels.TheConstants.{COMPARISON_LEVEL, JOIN_LEVEL, SUM_LEVEL, TERM_LEVEL, SIGN_LEVEL, OPERAND_LEVEL}
 use Rattle.formula_trees.specs.Functions.{kind_of, enough, takes_more}
 
 -- a number that a formula may spell
@@ -84,6 +84,7 @@ op_level Op.Add = SUM_LEVEL
 op_level Op.Sub = SUM_LEVEL
 op_level Op.Mul = TERM_LEVEL
 op_level Op.Div = TERM_LEVEL
+op_level Op.Join = JOIN_LEVEL
 op_level Op.Eq = COMPARISON_LEVEL
 op_level Op.Ne = COMPARISON_LEVEL
 op_level Op.Lt = COMPARISON_LEVEL

@@ -78,6 +78,10 @@ pub fn signature_of(function: Fun) -> Signature
         Fun::Match => takes(Plain, Place, Exact, Plain, 2, Some(3)),
         Fun::VLookup => takes(Plain, Place, Plain, Exact, 3, Some(4)),
         Fun::HLookup => takes(Plain, Place, Plain, Exact, 3, Some(4)),
+        Fun::Left => takes(Plain, Plain, Plain, Plain, 1, Some(2)),
+        Fun::Right => takes(Plain, Plain, Plain, Plain, 1, Some(2)),
+        Fun::Mid => takes(Plain, Plain, Plain, Plain, 3, Some(3)),
+        Fun::Len => takes(Plain, Plain, Plain, Plain, 1, Some(1)),
     }
 }
 

@@ -9,17 +9,20 @@ use crate::{Op, Tree};
 /// The level of a comparison.
 pub const COMPARISON_LEVEL: u8 = 1;
 
+/// The level of texts joined by `&`.
+pub const JOIN_LEVEL: u8 = 2;
+
 /// The level of a sum or a difference.
-pub const SUM_LEVEL: u8 = 2;
+pub const SUM_LEVEL: u8 = 3;
 
 /// The level of a product or a quotient.
-pub const TERM_LEVEL: u8 = 3;
+pub const TERM_LEVEL: u8 = 4;
 
 /// The level of a sign.
-pub const SIGN_LEVEL: u8 = 4;
+pub const SIGN_LEVEL: u8 = 5;
 
 /// The level of what needs no parentheses: a literal, a reference or a call.
-pub const OPERAND_LEVEL: u8 = 5;
+pub const OPERAND_LEVEL: u8 = 6;
 
 /// The level of an operator.
 pub fn op_level(op: Op) -> u8
@@ -29,6 +32,7 @@ pub fn op_level(op: Op) -> u8
     match op {
         Op::Add | Op::Sub => SUM_LEVEL,
         Op::Mul | Op::Div => TERM_LEVEL,
+        Op::Join => JOIN_LEVEL,
         Op::Eq | Op::Ne | Op::Lt | Op::Le | Op::Gt | Op::Ge => COMPARISON_LEVEL,
     }
 }

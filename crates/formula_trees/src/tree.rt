@@ -31,6 +31,8 @@ pub enum Op {
     Sub,
     Mul,
     Div,
+    /// One text behind the other.
+    Join,
     Eq,
     Ne,
     Lt,
@@ -60,6 +62,10 @@ pub enum Fun {
     Match,
     VLookup,
     HLookup,
+    Left,
+    Right,
+    Mid,
+    Len,
 }
 
 /// A formula as a tree. Parentheses make no node.

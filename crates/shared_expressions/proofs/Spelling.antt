@@ -37,10 +37,10 @@ abbrev sign_read : ℤ → Sign
 sign_read z = get_or (Sign.Minus ∷ Sign.Plus ∷ []) (size z) Sign.Plus
 
 abbrev op_read : ℤ → Op
-op_read z = get_or (Op.Add ∷ Op.Sub ∷ Op.Mul ∷ Op.Div ∷ Op.Eq ∷ Op.Ne ∷ Op.Lt ∷ Op.Le ∷ Op.Gt ∷ Op.Ge ∷ []) (size z) Op.Add
+op_read z = get_or (Op.Add ∷ Op.Sub ∷ Op.Mul ∷ Op.Div ∷ Op.Eq ∷ Op.Ne ∷ Op.Lt ∷ Op.Le ∷ Op.Gt ∷ Op.Ge ∷ Op.Join ∷ []) (size z) Op.Add
 
 abbrev fun_read : ℤ → Fun
-fun_read z = get_or (Fun.If ∷ Fun.And ∷ Fun.Or ∷ Fun.Not ∷ Fun.Choose ∷ Fun.IfError ∷ Fun.IsError ∷ Fun.Sum ∷ Fun.Min ∷ Fun.Max ∷ Fun.Count ∷ Fun.Abs ∷ Fun.Mod ∷ Fun.Quotient ∷ Fun.Index ∷ Fun.Match ∷ Fun.VLookup ∷ Fun.HLookup ∷ []) (size z) Fun.If
+fun_read z = get_or (Fun.If ∷ Fun.And ∷ Fun.Or ∷ Fun.Not ∷ Fun.Choose ∷ Fun.IfError ∷ Fun.IsError ∷ Fun.Sum ∷ Fun.Min ∷ Fun.Max ∷ Fun.Count ∷ Fun.Abs ∷ Fun.Mod ∷ Fun.Quotient ∷ Fun.Index ∷ Fun.Match ∷ Fun.VLookup ∷ Fun.HLookup ∷ Fun.Left ∷ Fun.Right ∷ Fun.Mid ∷ Fun.Len ∷ []) (size z) Fun.If
 
 -- the node that a key begins with, by its kind, and the rest
 abbrev node_read : ℕ → List ℤ → Node × List ℤ
@@ -79,6 +79,7 @@ op_back Op.Lt = refl
 op_back Op.Le = refl
 op_back Op.Gt = refl
 op_back Op.Ge = refl
+op_back Op.Join = refl
 
 fun_back : (f : Fun) → fun_read (fun_number f) ≡ f
 fun_back Fun.If = refl
@@ -99,6 +100,10 @@ fun_back Fun.Index = refl
 fun_back Fun.Match = refl
 fun_back Fun.VLookup = refl
 fun_back Fun.HLookup = refl
+fun_back Fun.Left = refl
+fun_back Fun.Right = refl
+fun_back Fun.Mid = refl
+fun_back Fun.Len = refl
 
 key_back : (n : Node) (q : List ℤ) → key_read (node_key n ++ q) ≡ (n, q)
 key_back (Node.Number n) q = refl

@@ -41,6 +41,7 @@ op_number Op.Lt = pos 6
 op_number Op.Le = pos 7
 op_number Op.Gt = pos 8
 op_number Op.Ge = pos 9
+op_number Op.Join = pos 10
 
 abbrev pub fun_number : Fun → ℤ
 fun_number Fun.If = pos 0
@@ -61,6 +62,10 @@ fun_number Fun.Index = pos 14
 fun_number Fun.Match = pos 15
 fun_number Fun.VLookup = pos 16
 fun_number Fun.HLookup = pos 17
+fun_number Fun.Left = pos 18
+fun_number Fun.Right = pos 19
+fun_number Fun.Mid = pos 20
+fun_number Fun.Len = pos 21
 
 -- a number for the kind of node, and the numbers of what it holds
 abbrev pub node_key : Node → List ℤ

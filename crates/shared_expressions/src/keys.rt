@@ -125,6 +125,7 @@ fn op_number(op: Op) -> Int
         Op::Le => 7,
         Op::Gt => 8,
         Op::Ge => 9,
+        Op::Join => 10,
     }
 }
 
@@ -150,5 +151,9 @@ fn fun_number(fun: Fun) -> Int
         Fun::Match => 15,
         Fun::VLookup => 16,
         Fun::HLookup => 17,
+        Fun::Left => 18,
+        Fun::Right => 19,
+        Fun::Mid => 20,
+        Fun::Len => 21,
     }
 }

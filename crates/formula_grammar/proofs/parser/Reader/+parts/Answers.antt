@@ -28,6 +28,28 @@ expression-returns-in_err-take-clause-err t c =
     let f = R.fails_operator c.args.depth c.in-Some.op c.args.self.now c.loop-op.self _ c.loop-op.invariant.read.runs (sym c.peek.ensures ∙ c.in-Some.ensures.some.0) c.in_err-take.ensures.err in
     rw (p.1, p.2) f
 
+pub joins-loop-op-init : goal.joins-loop-op-init
+joins-loop-op-init t c = record {
+  read = R.joins_first _ _ _ _ _ c.in_ok-left.ensures.ok;
+  next = c.in_ok-left.ensures.next;
+  shorter = c.in_ok-left.ensures.shorter;
+}
+
+pub joins-loop-op-preserved : goal.joins-loop-op-preserved
+joins-loop-op-preserved t c =
+    let e = R.took_operator c.in-Some.op c.loop-op.self c.take.new.self (sym c.peek.ensures ∙ c.in-Some.ensures.some.0) c.in_ok-take.ensures.ok in
+    record {
+      read = R.joins_more _ _ c.in-Some.op _ c.loop-op.self c.take.new.self _ _ _ _ c.loop-op.invariant.read e c.in_ok-take.ensures.room c.in-Some.ensures.some.1 c.in_ok-right.ensures.ok c.in_ok-left-2.ensures.ok;
+      next = c.in_ok-right.ensures.next;
+      shorter = omega (arith, R.took_shorter _ _ _ _ e, c.in_ok-right.ensures.shorter, c.loop-op.invariant.shorter);
+    }
+
+pub joins-returns-in_err-take-clause-err : goal.joins-returns-in_err-take-clause-err
+joins-returns-in_err-take-clause-err t c =
+    let p = err_from_is_err_and c.from_residual-in_err-take.result c.from_residual-in_err-take.ensures.1 in
+    let f = R.fails_operator c.args.depth c.in-Some.op c.args.self.now c.loop-op.self _ c.loop-op.invariant.read.runs (sym c.peek.ensures ∙ c.in-Some.ensures.some.0) c.in_err-take.ensures.err in
+    rw (p.1, p.2) f
+
 pub sums-loop-op-init : goal.sums-loop-op-init
 sums-loop-op-init t c = record {
   read = R.sums_first _ _ _ _ _ c.in_ok-left.ensures.ok;
