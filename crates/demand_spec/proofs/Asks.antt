@@ -22,6 +22,7 @@ use Rattle.builtin_functions.specs.Folds.{Total, taken}
 use Rattle.demand_spec.specs.declared.Asked.{Asked}
 use Rattle.demand_spec.specs.declared.Asked.TheVariants.{Val, Needs}
 use Rattle.demand_spec.specs.Plan.{Plan, Give, Demand, after, run}
+use Rattle.computed_text.specs.Computed.{joined, left_of, right_of, mid_of, length_of}
 use Rattle.demand_spec.specs.Formula.{fails, unless_error, value_of, or_fail, condition_of, if_number, if_cells, if_up_to, and_plan, or_plan, from_one, chosen, go_on, fold_cells, fold_argument, fold_plan, is_found, search_plan, demand_of, operator_value, sign_value, value_at, plan, arguments}
 use Rattle.demand_spec.specs.Book.{Book, Known, look, ask}
 use Rattle.demand_spec.specs.Asks.{answer_of, ask_two, index_steps, match_steps, v_lookup_steps, h_lookup_steps, on_with, and_on, any_value, value_or_end, or_fails, condition_or_end, number_or_end, cells_or_end, up_to_or_end, found_or_end, if_error, argument_at, ask_argument, ask_chosen, fold_looks, fold_part, ask_fold, search_looks}
@@ -82,7 +83,7 @@ run-demand l a = go (l a)
 unary_is : (s : Sign2) (v : Value) → IsFalse (is_error v) → unary_value s v ≡ sign_table s v
 unary_is s v h = ap (λ q. cond q v (sign_table s v)) h
 
-binary_is : (ts : Texts) (o : Op2) (v w : Value) → IsFalse (is_error v) → IsFalse (is_error w) → binary_value ts o v w ≡ table ts o v w
+pub binary_is : (ts : Texts) (o : Op2) (v w : Value) → IsFalse (is_error v) → IsFalse (is_error w) → binary_value ts o v w ≡ table ts o v w
 binary_is ts o v w h k = ap (λ q. cond q v (cond (is_error w) w (table ts o v w))) h ∙ ap (λ q. cond q w (table ts o v w)) k
 
 -- a value that is found is what a look gives
@@ -99,23 +100,48 @@ reference_gives b e at r = (λ a h. ap (λ o. run (look b e) (demand_of o)) h �
 pub ask_unary : (b : Book) (e : Known) (at : Addr) (s : Sign) (t : Expr) → ask b e at (Unary s t) ≡ on_with (value_or_end (ask b e at t)) (λ x. Val (sign_value s x))
 ask_unary b e at s t = run-value_of (look b e) (plan b.texts at t) (λ x. Give (sign_value s x))
 
--- two values in turn, as an operator or a function of two takes them
-two_values : (b : Book) (e : Known) (at : Addr) (f : Value → Value → Value) (t u : Expr) → run (look b e) (value_of (plan b.texts at t) (λ x. value_of (plan b.texts at u) (λ y. Give (f x y)))) ≡ on_with (value_or_end (ask b e at t)) (λ x. on_with (value_or_end (ask b e at u)) (λ y. Val (f x y)))
-two_values b e at f t u =
-    run-value_of (look b e) (plan b.texts at t) (λ x. value_of (plan b.texts at u) (λ y. Give (f x y)))
-    ∙ ap (on_with (value_or_end (ask b e at t))) (λ i x. run-value_of (look b e) (plan b.texts at u) (λ y. Give (f x y)) i)
+-- two values in turn, as an operator or a function of two takes them; and three
+two_in_turn : (l : Addr → Asked) (p q : Plan) (f : Value → Value → Value) → run l (value_of p (λ x. value_of q (λ y. Give (f x y)))) ≡ on_with (value_or_end (run l p)) (λ x. on_with (value_or_end (run l q)) (λ y. Val (f x y)))
+two_in_turn l p q f =
+    run-value_of l p (λ x. value_of q (λ y. Give (f x y)))
+    ∙ ap (on_with (value_or_end (run l p))) (λ i x. run-value_of l q (λ y. Give (f x y)) i)
+
+three_in_turn : (l : Addr → Asked) (p q r : Plan) (f : Value → Value → Value → Value) → run l (value_of p (λ x. value_of q (λ y. value_of r (λ z. Give (f x y z))))) ≡ on_with (value_or_end (run l p)) (λ x. on_with (value_or_end (run l q)) (λ y. on_with (value_or_end (run l r)) (λ z. Val (f x y z))))
+three_in_turn l p q r f =
+    run-value_of l p (λ x. value_of q (λ y. value_of r (λ z. Give (f x y z))))
+    ∙ ap (on_with (value_or_end (run l p))) (λ i x. two_in_turn l q r (f x) i)
 
 pub ask_binary : (b : Book) (e : Known) (at : Addr) (o : Op) (t u : Expr) → ask b e at (Binary o t u) ≡ on_with (value_or_end (ask b e at t)) (λ x. on_with (value_or_end (ask b e at u)) (λ y. Val (operator_value b.texts o x y)))
-ask_binary b e at o t u = two_values b e at (operator_value b.texts o) t u
+ask_binary b e at o t u = two_in_turn (look b e) (plan b.texts at t) (plan b.texts at u) (operator_value b.texts o)
 
 pub ask_mod : (b : Book) (e : Known) (at : Addr) (t u : Expr) → ask b e at (Call Fun.Mod (More t (More u End))) ≡ on_with (value_or_end (ask b e at t)) (λ x. on_with (value_or_end (ask b e at u)) (λ y. Val (table b.texts Op2.Mod x y)))
-ask_mod b e at t u = two_values b e at (table b.texts Op2.Mod) t u
+ask_mod b e at t u = two_in_turn (look b e) (plan b.texts at t) (plan b.texts at u) (table b.texts Op2.Mod)
 
 pub ask_quotient : (b : Book) (e : Known) (at : Addr) (t u : Expr) → ask b e at (Call Fun.Quotient (More t (More u End))) ≡ on_with (value_or_end (ask b e at t)) (λ x. on_with (value_or_end (ask b e at u)) (λ y. Val (table b.texts Op2.Quotient x y)))
-ask_quotient b e at t u = two_values b e at (table b.texts Op2.Quotient) t u
+ask_quotient b e at t u = two_in_turn (look b e) (plan b.texts at t) (plan b.texts at u) (table b.texts Op2.Quotient)
 
 pub ask_abs : (b : Book) (e : Known) (at : Addr) (t : Expr) → ask b e at (Call Fun.Abs (More t End)) ≡ on_with (value_or_end (ask b e at t)) (λ x. Val (sign_table Sign2.Abs x))
 ask_abs b e at t = run-value_of (look b e) (plan b.texts at t) (λ x. Give (sign_table Sign2.Abs x))
+
+-- computed texts
+
+pub ask_left : (b : Book) (e : Known) (at : Addr) (t n : Expr) → ask b e at (Call Fun.Left (More t (More n End))) ≡ on_with (value_or_end (ask b e at t)) (λ x. on_with (value_or_end (ask b e at n)) (λ k. Val (left_of b.texts x k)))
+ask_left b e at t n = two_in_turn (look b e) (plan b.texts at t) (plan b.texts at n) (left_of b.texts)
+
+pub ask_left_one : (b : Book) (e : Known) (at : Addr) (t : Expr) → ask b e at (Call Fun.Left (More t End)) ≡ on_with (value_or_end (ask b e at t)) (λ x. Val (left_of b.texts x (Value.Number (pos 1))))
+ask_left_one b e at t = two_in_turn (look b e) (plan b.texts at t) (Give (Value.Number (pos 1))) (left_of b.texts)
+
+pub ask_right : (b : Book) (e : Known) (at : Addr) (t n : Expr) → ask b e at (Call Fun.Right (More t (More n End))) ≡ on_with (value_or_end (ask b e at t)) (λ x. on_with (value_or_end (ask b e at n)) (λ k. Val (right_of b.texts x k)))
+ask_right b e at t n = two_in_turn (look b e) (plan b.texts at t) (plan b.texts at n) (right_of b.texts)
+
+pub ask_right_one : (b : Book) (e : Known) (at : Addr) (t : Expr) → ask b e at (Call Fun.Right (More t End)) ≡ on_with (value_or_end (ask b e at t)) (λ x. Val (right_of b.texts x (Value.Number (pos 1))))
+ask_right_one b e at t = two_in_turn (look b e) (plan b.texts at t) (Give (Value.Number (pos 1))) (right_of b.texts)
+
+pub ask_mid : (b : Book) (e : Known) (at : Addr) (t s n : Expr) → ask b e at (Call Fun.Mid (More t (More s (More n End)))) ≡ on_with (value_or_end (ask b e at t)) (λ x. on_with (value_or_end (ask b e at s)) (λ i. on_with (value_or_end (ask b e at n)) (λ k. Val (mid_of b.texts x i k))))
+ask_mid b e at t s n = three_in_turn (look b e) (plan b.texts at t) (plan b.texts at s) (plan b.texts at n) (mid_of b.texts)
+
+pub ask_len : (b : Book) (e : Known) (at : Addr) (t : Expr) → ask b e at (Call Fun.Len (More t End)) ≡ on_with (value_or_end (ask b e at t)) (λ x. Val (length_of b.texts x))
+ask_len b e at t = run-value_of (look b e) (plan b.texts at t) (λ x. Give (length_of b.texts x))
 
 -- a condition, and then one of two plans
 by_condition : (b : Book) (e : Known) (at : Addr) (t : Expr) (p q : Plan) → run (look b e) (condition_of (plan b.texts at t) (λ c. cond c p q)) ≡ on_with (condition_or_end (ask b e at t)) (λ c. cond c (run (look b e) p) (run (look b e) q))
@@ -254,19 +280,23 @@ ask_h_lookup b e at key range row rest =
 
 -- The same as evaluators take them: an operator at two values gives an error where one of them is one
 
-on_value : (r : Asked) (f g : Value → Asked) → ((v : Value) → IsFalse (is_error v) → f v ≡ g v) → on_with (value_or_end r) f ≡ on_with (value_or_end r) g
+pub on_value : (r : Asked) (f g : Value → Asked) → ((v : Value) → IsFalse (is_error v) → f v ≡ g v) → on_with (value_or_end r) f ≡ on_with (value_or_end r) g
 on_value (Needs x) f g h = refl
 on_value (Val (Value.Error e)) f g h = refl
 on_value (Val v) f g h = h v refl
 
+-- two values that are no errors
+pub on_values : (r s : Asked) (f g : Value → Value → Value) → ((v w : Value) → IsFalse (is_error v) → IsFalse (is_error w) → f v w ≡ g v w) → on_with (value_or_end r) (λ x. on_with (value_or_end s) (λ y. Val (f x y))) ≡ on_with (value_or_end r) (λ x. on_with (value_or_end s) (λ y. Val (g x y)))
+on_values r s f g h = on_value r _ _ (λ v k. on_value s _ _ (λ w l. ap Val (h v w k l)))
+
+pub ask_join : (b : Book) (e : Known) (at : Addr) (t u : Expr) → ask b e at (Binary Op.Join t u) ≡ on_with (value_or_end (ask b e at t)) (λ x. on_with (value_or_end (ask b e at u)) (λ y. Val (joined b.texts x y)))
+ask_join b e at t u = ask_binary b e at Op.Join t u ∙ on_values (ask b e at t) (ask b e at u) (operator_value b.texts Op.Join) (joined b.texts) (λ v w h k. ap (λ q. cond q v (cond (is_error w) w (joined b.texts v w))) h ∙ ap (λ q. cond q w (joined b.texts v w)) k)
+
 pub ask_abs_all : (b : Book) (e : Known) (at : Addr) (t : Expr) → ask b e at (Call Fun.Abs (More t End)) ≡ on_with (value_or_end (ask b e at t)) (λ x. Val (unary_value Sign2.Abs x))
 ask_abs_all b e at t = ask_abs b e at t ∙ on_value (ask b e at t) _ _ (λ v h. ap Val (sym (unary_is Sign2.Abs v h)))
 
-two_all : (b : Book) (e : Known) (at : Addr) (o : Op2) (t u : Expr) → on_with (value_or_end (ask b e at t)) (λ x. on_with (value_or_end (ask b e at u)) (λ y. Val (table b.texts o x y))) ≡ on_with (value_or_end (ask b e at t)) (λ x. on_with (value_or_end (ask b e at u)) (λ y. Val (binary_value b.texts o x y)))
-two_all b e at o t u = on_value (ask b e at t) _ _ (λ v h. on_value (ask b e at u) _ _ (λ w k. ap Val (sym (binary_is b.texts o v w h k))))
-
-pub ask_two_all : (b : Book) (e : Known) (at : Addr) (o : Op2) (t u : Expr) → ask_two b e at o (More t (More u End)) ≡ on_with (value_or_end (ask b e at t)) (λ x. on_with (value_or_end (ask b e at u)) (λ y. Val (binary_value b.texts o x y)))
-ask_two_all b e at o t u = two_values b e at (table b.texts o) t u ∙ two_all b e at o t u
+pub ask_two_all : (b : Book) (e : Known) (at : Addr) (f g : Value → Value → Value) → ((v w : Value) → IsFalse (is_error v) → IsFalse (is_error w) → f v w ≡ g v w) → (t u : Expr) → ask_two b e at f (More t (More u End)) ≡ on_with (value_or_end (ask b e at t)) (λ x. on_with (value_or_end (ask b e at u)) (λ y. Val (g x y)))
+ask_two_all b e at f g h t u = two_in_turn (look b e) (plan b.texts at t) (plan b.texts at u) f ∙ on_values (ask b e at t) (ask b e at u) f g h
 
 pub ask_index_steps : (b : Book) (e : Known) (at : Addr) (range row col : Expr) → ask b e at (Call Fun.Index (More range (More row (More col End)))) ≡ on_with (value_or_end (ask b e at row)) (λ v. on_with (value_or_end (ask b e at col)) (λ w. index_steps (look b e) v w (place_of at range)))
 ask_index_steps = ask_index

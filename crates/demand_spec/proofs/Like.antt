@@ -22,10 +22,12 @@ use Rattle.builtin_functions.specs.declared.operators.Op2.{Op2}
 use Rattle.builtin_functions.specs.declared.operators.Sign2.{Sign2}
 use Rattle.builtin_functions.specs.declared.folds.FoldKind.{FoldKind}
 use Rattle.builtin_functions.specs.Folds.{Total, so_far, counted, stops, taken}
+use Rattle.cell_values.specs.ShownText.{int_text, bool_text, code_text, value_text}
+use Rattle.computed_text.specs.Computed.{joined, left_of, right_of, mid_of, length_of}
 use Rattle.demand_spec.specs.Plan.{Plan, Give, Demand, and_then}
-use Rattle.demand_spec.specs.Formula.{fails, unless_error, value_of, or_fail, condition_of, if_number, Argument, if_cells, if_up_to, if_plan, and_plan, or_plan, not_plan, value_at, from_one, chosen, choose_plan, if_error_plan, is_error_plan, go_on, fold_cells, fold_argument, fold_plan, one_number, two_numbers, is_found, search_plan, index_plan, match_plan, v_lookup_plan, h_lookup_plan, call_plan, demand_of, op_of, sign_of, operator_value, sign_value, plan, arguments}
+use Rattle.demand_spec.specs.Formula.{fails, unless_error, value_of, or_fail, condition_of, if_number, Argument, if_cells, if_up_to, if_plan, and_plan, or_plan, not_plan, value_at, from_one, chosen, choose_plan, if_error_plan, is_error_plan, go_on, fold_cells, fold_argument, fold_plan, one_value, two_values, three_values, with_one, is_found, search_plan, index_plan, match_plan, v_lookup_plan, h_lookup_plan, call_plan, demand_of, op_of, sign_of, operator_table, operator_value, sign_value, plan, arguments}
 use Rattle.demand_spec.specs.Like.{IsPlain, OnCells, OnValues, Respects, LikeOption, LikeAreas, LikePlaces, LikeTrees, AllLikeTrees}
-use Rattle.demand_spec.proofs.Plain.{sign_plain, table_plain}
+use Rattle.demand_spec.proofs.Plain.{sign_plain, table_plain, joined_plain, left_plain, right_plain, mid_plain}
 use Rattle.cell_values.proofs.Walking.{length-numbers_from}
 
 -- Two plans that demand related cells, and give related values.
@@ -45,6 +47,7 @@ class_number c = None
 number_is : (ts : Texts) (v : Value) → as_number v ≡ class_number (class ts v)
 number_is ts (Value.Number n) = refl
 number_is ts (Value.Text n) = refl
+number_is ts (Value.Short n) = refl
 number_is ts (Value.Bool n) = refl
 number_is ts Value.Blank = refl
 number_is ts (Value.Error n) = refl
@@ -59,6 +62,7 @@ class_condition (Class.Failed e) = Err e
 condition_is : (ts : Texts) (v : Value) → condition v ≡ class_condition (class ts v)
 condition_is ts (Value.Number n) = refl
 condition_is ts (Value.Text n) = refl
+condition_is ts (Value.Short n) = refl
 condition_is ts (Value.Bool n) = refl
 condition_is ts Value.Blank = refl
 condition_is ts (Value.Error n) = refl
@@ -74,6 +78,7 @@ class_error c = None
 error_is : (ts : Texts) (v : Value) → error_of v ≡ class_error (class ts v)
 error_is ts (Value.Number n) = refl
 error_is ts (Value.Text n) = refl
+error_is ts (Value.Short n) = refl
 error_is ts (Value.Bool n) = refl
 error_is ts Value.Blank = refl
 error_is ts (Value.Error n) = refl
@@ -85,6 +90,7 @@ class_is_error c = false
 is_error_is : (ts : Texts) (v : Value) → is_error v ≡ class_is_error (class ts v)
 is_error_is ts (Value.Number n) = refl
 is_error_is ts (Value.Text n) = refl
+is_error_is ts (Value.Short n) = refl
 is_error_is ts (Value.Bool n) = refl
 is_error_is ts Value.Blank = refl
 is_error_is ts (Value.Error n) = refl
@@ -102,10 +108,27 @@ taken_is : (ts : Texts) (k : FoldKind) (t : Total) (q : Bool) (v : Value) → ta
 taken_is ts k t q (Value.Number n) = refl
 taken_is ts k t true (Value.Text n) = refl
 taken_is ts k t false (Value.Text n) = refl
+taken_is ts k t true (Value.Short n) = refl
+taken_is ts k t false (Value.Short n) = refl
 taken_is ts k t true (Value.Bool n) = refl
 taken_is ts k t false (Value.Bool n) = refl
 taken_is ts k t q Value.Blank = refl
 taken_is ts k t q (Value.Error n) = refl
+
+abbrev class_text : Class → List ℕ
+class_text (Class.Number n) = int_text n
+class_text (Class.Text t) = t
+class_text (Class.Truth b) = bool_text b
+class_text Class.Blank = []
+class_text (Class.Failed e) = code_text e
+
+text_is : (ts : Texts) (v : Value) → value_text ts v ≡ class_text (class ts v)
+text_is ts (Value.Number n) = refl
+text_is ts (Value.Text n) = refl
+text_is ts (Value.Short n) = refl
+text_is ts (Value.Bool n) = refl
+text_is ts Value.Blank = refl
+text_is ts (Value.Error n) = refl
 
 order_is : (ts : Texts) (a b : Value) → order ts a b ≡ class_order (class ts a) (class ts b)
 unfolding order
@@ -122,6 +145,7 @@ found_is ts key (Value.Error e) = refl
 found_is ts key Value.Blank = refl
 found_is ts key (Value.Number n) = ap equals (order_is ts (Value.Number n) key)
 found_is ts key (Value.Text n) = ap equals (order_is ts (Value.Text n) key)
+found_is ts key (Value.Short n) = ap equals (order_is ts (Value.Short n) key)
 found_is ts key (Value.Bool n) = ap equals (order_is ts (Value.Bool n) key)
 
 -- an error ends the formula, any other value goes on
@@ -132,6 +156,7 @@ error_or None p = p
 unless_error_is : (v : Value) (f : Value → Plan) → unless_error v f ≡ error_or (error_of v) (f v)
 unless_error_is (Value.Number n) f = refl
 unless_error_is (Value.Text n) f = refl
+unless_error_is (Value.Short n) f = refl
 unless_error_is (Value.Bool n) f = refl
 unless_error_is Value.Blank f = refl
 unless_error_is (Value.Error n) f = refl
@@ -258,6 +283,9 @@ module _ (R : OnCells) (V : OnValues) (ts us : Texts) (ok : Respects ts us V) wh
   same_found : (a c b d : Value) → V a c → V b d → is_found ts a b ≡ is_found us c d
   same_found a c b d p q = found_is ts a b ∙ ap (λ z. class_found z (class ts b)) (ok.same_class a c p) ∙ ap (class_found (class us c)) (ok.same_class b d q) ∙ sym (found_is us c d)
 
+  same_text : (v w : Value) → V v w → value_text ts v ≡ value_text us w
+  same_text v w h = text_is ts v ∙ ap class_text (ok.same_class v w h) ∙ sym (text_is us w)
+
   -- values that are the same and plain
   same_plain : (v w : Value) → IsPlain v → v ≡ w → V v w
   same_plain v w p e = subst (V v) e (ok.plain v p)
@@ -287,6 +315,25 @@ module _ (R : OnCells) (V : OnValues) (ts us : Texts) (ok : Respects ts us V) wh
       by_op Op2.Mod = rw (same_number a c p, same_number b d q) refl
       by_op Op2.Quotient = rw (same_number a c p, same_number b d q) refl
 
+  joined_like : (a c b d : Value) → V a c → V b d → V (joined ts a b) (joined us c d)
+  joined_like a c b d p q = same_plain (joined ts a b) (joined us c d) (joined_plain ts a b) (rw (same_text a c p, same_text b d q) refl)
+
+  left_like : (t u n m : Value) → V t u → V n m → V (left_of ts t n) (left_of us u m)
+  left_like t u n m p q = same_plain (left_of ts t n) (left_of us u m) (left_plain ts t n) (rw (same_text t u p, same_number n m q) refl)
+
+  right_like : (t u n m : Value) → V t u → V n m → V (right_of ts t n) (right_of us u m)
+  right_like t u n m p q = same_plain (right_of ts t n) (right_of us u m) (right_plain ts t n) (rw (same_text t u p, same_number n m q) refl)
+
+  mid_like : (t u s r n m : Value) → V t u → V s r → V n m → V (mid_of ts t s n) (mid_of us u r m)
+  mid_like t u s r n m p o q = same_plain (mid_of ts t s n) (mid_of us u r m) (mid_plain ts t s n) (rw (same_text t u p, same_number s r o, same_number n m q) refl)
+
+  length_like : (t u : Value) → V t u → V (length_of ts t) (length_of us u)
+  length_like t u p = same_plain (length_of ts t) (length_of us u) tt (rw (same_text t u p) refl)
+
+  operator_table_like : (o : Option Op2) (a c b d : Value) → V a c → V b d → V (operator_table ts o a b) (operator_table us o c d)
+  operator_table_like (Some o) a c b d p q = table_like o a c b d p q
+  operator_table_like None a c b d p q = joined_like a c b d p q
+
   -- operators and signs, at any values
 
   choice_like : (p q : Bool) (a b c d : Value) → p ≡ q → V a b → V c d → V (cond p a c) (cond q b d)
@@ -301,7 +348,7 @@ module _ (R : OnCells) (V : OnValues) (ts us : Texts) (ok : Respects ts us V) wh
   operator_like : (o : Op) (v w x y : Value) → V v w → V x y → V (operator_value ts o v x) (operator_value us o w y)
   operator_like o v w x y h k =
       choice_like (is_error v) (is_error w) v w _ _ (same_is_error v w h) h
-      (choice_like (is_error x) (is_error y) x y (table ts (op_of o) v x) (table us (op_of o) w y) (same_is_error x y k) k (table_like (op_of o) v w x y h k))
+      (choice_like (is_error x) (is_error y) x y (operator_table ts (op_of o) v x) (operator_table us (op_of o) w y) (same_is_error x y k) k (operator_table_like (op_of o) v w x y h k))
 
   -- Ways on
 
@@ -452,18 +499,35 @@ module _ (R : OnCells) (V : OnValues) (ts us : Texts) (ok : Respects ts us V) wh
   fold_like k [] h t = number_like (so_far t)
   fold_like k (b ∷ bs) h t = fold_argument_like (λ u. fold_plan k u (lefts bs)) (λ u. fold_plan k u (rights bs)) (fold_like k bs h.2) k t b.left.place b.right.place b.left.value b.right.value h.1 h.0
 
-  -- ABS, MOD, QUOTIENT
+  -- functions of one value, of two, of three
 
-  one_number_like : (f g : Value → Value) → ((v w : Value) → V v w → V (f v) (g w)) → (bs : List Both) → AllLike R V bs → Like R V (one_number f (lefts bs)) (one_number g (rights bs))
-  one_number_like f g s [] h = fails_like Code.Value
-  one_number_like f g s (a ∷ []) h = value_of_like (λ x. Give (f x)) (λ x. Give (g x)) s a.left.value a.right.value h.0
-  one_number_like f g s (a ∷ x ∷ rest) h = fails_like Code.Value
+  one_value_like : (f g : Value → Value) → ((v w : Value) → V v w → V (f v) (g w)) → (bs : List Both) → AllLike R V bs → Like R V (one_value f (lefts bs)) (one_value g (rights bs))
+  one_value_like f g s [] h = fails_like Code.Value
+  one_value_like f g s (a ∷ []) h = value_of_like (λ x. Give (f x)) (λ x. Give (g x)) s a.left.value a.right.value h.0
+  one_value_like f g s (a ∷ x ∷ rest) h = fails_like Code.Value
 
-  two_numbers_like : (f g : Value → Value → Value) → ((v w x y : Value) → V v w → V x y → V (f v x) (g w y)) → (bs : List Both) → AllLike R V bs → Like R V (two_numbers f (lefts bs)) (two_numbers g (rights bs))
-  two_numbers_like f g s (a ∷ b ∷ []) h = value_of_like (λ x. value_of b.left.value (λ y. Give (f x y))) (λ x. value_of b.right.value (λ y. Give (g x y))) (λ v w t. value_of_like (λ y. Give (f v y)) (λ y. Give (g w y)) (λ x y u. s v w x y t u) b.left.value b.right.value h.2.0) a.left.value a.right.value h.0
-  two_numbers_like f g s [] h = fails_like Code.Value
-  two_numbers_like f g s (a ∷ []) h = fails_like Code.Value
-  two_numbers_like f g s (a ∷ b ∷ x ∷ rest) h = fails_like Code.Value
+  two_in_turn_like : (f g : Value → Value → Value) → ((v w x y : Value) → V v w → V x y → V (f v x) (g w y)) → (p q r s : Plan) → Like R V p q → Like R V r s → Like R V (value_of p (λ x. value_of r (λ y. Give (f x y)))) (value_of q (λ x. value_of s (λ y. Give (g x y))))
+  two_in_turn_like f g k p q r s h o = value_of_like (λ x. value_of r (λ y. Give (f x y))) (λ x. value_of s (λ y. Give (g x y))) (λ v w t. value_of_like (λ y. Give (f v y)) (λ y. Give (g w y)) (λ x y u. k v w x y t u) r s o) p q h
+
+  two_values_like : (f g : Value → Value → Value) → ((v w x y : Value) → V v w → V x y → V (f v x) (g w y)) → (bs : List Both) → AllLike R V bs → Like R V (two_values f (lefts bs)) (two_values g (rights bs))
+  two_values_like f g s (a ∷ b ∷ []) h = two_in_turn_like f g s a.left.value a.right.value b.left.value b.right.value h.0 h.2.0
+  two_values_like f g s [] h = fails_like Code.Value
+  two_values_like f g s (a ∷ []) h = fails_like Code.Value
+  two_values_like f g s (a ∷ b ∷ x ∷ rest) h = fails_like Code.Value
+
+  -- with 1 for a count that is not given
+  counted_like : (f g : Value → Value → Value) → ((v w x y : Value) → V v w → V x y → V (f v x) (g w y)) → (bs : List Both) → AllLike R V bs → Like R V (two_values f (with_one (lefts bs))) (two_values g (with_one (rights bs)))
+  counted_like f g s (a ∷ []) h = two_in_turn_like f g s a.left.value a.right.value (Give (Value.Number (pos 1))) (Give (Value.Number (pos 1))) h.0 (number_like (pos 1))
+  counted_like f g s (a ∷ b ∷ []) h = two_values_like f g s (a ∷ b ∷ []) h
+  counted_like f g s [] h = fails_like Code.Value
+  counted_like f g s (a ∷ b ∷ x ∷ rest) h = fails_like Code.Value
+
+  three_values_like : (f g : Value → Value → Value → Value) → ((v w x y i j : Value) → V v w → V x y → V i j → V (f v x i) (g w y j)) → (bs : List Both) → AllLike R V bs → Like R V (three_values f (lefts bs)) (three_values g (rights bs))
+  three_values_like f g s (a ∷ b ∷ c ∷ []) h = value_of_like (λ x. value_of b.left.value (λ y. value_of c.left.value (λ z. Give (f x y z)))) (λ x. value_of b.right.value (λ y. value_of c.right.value (λ z. Give (g x y z)))) (λ v w t. two_in_turn_like (f v) (g w) (λ x y i j u k. s v w x y i j t u k) b.left.value b.right.value c.left.value c.right.value h.2.0 h.2.2.0) a.left.value a.right.value h.0
+  three_values_like f g s [] h = fails_like Code.Value
+  three_values_like f g s (a ∷ []) h = fails_like Code.Value
+  three_values_like f g s (a ∷ b ∷ []) h = fails_like Code.Value
+  three_values_like f g s (a ∷ b ∷ c ∷ x ∷ rest) h = fails_like Code.Value
 
   -- INDEX, MATCH, VLOOKUP, HLOOKUP
 
@@ -527,13 +591,17 @@ module _ (R : OnCells) (V : OnValues) (ts us : Texts) (ok : Respects ts us V) wh
   call_like Fun.Min bs h = fold_like FoldKind.Min bs h None
   call_like Fun.Max bs h = fold_like FoldKind.Max bs h None
   call_like Fun.Count bs h = fold_like FoldKind.Count bs h None
-  call_like Fun.Abs bs h = one_number_like (sign_table Sign2.Abs) (sign_table Sign2.Abs) (sign_like Sign2.Abs) bs h
-  call_like Fun.Mod bs h = two_numbers_like (table ts Op2.Mod) (table us Op2.Mod) (λ v w x y p q. table_like Op2.Mod v w x y p q) bs h
-  call_like Fun.Quotient bs h = two_numbers_like (table ts Op2.Quotient) (table us Op2.Quotient) (λ v w x y p q. table_like Op2.Quotient v w x y p q) bs h
+  call_like Fun.Abs bs h = one_value_like (sign_table Sign2.Abs) (sign_table Sign2.Abs) (sign_like Sign2.Abs) bs h
+  call_like Fun.Mod bs h = two_values_like (table ts Op2.Mod) (table us Op2.Mod) (λ v w x y p q. table_like Op2.Mod v w x y p q) bs h
+  call_like Fun.Quotient bs h = two_values_like (table ts Op2.Quotient) (table us Op2.Quotient) (λ v w x y p q. table_like Op2.Quotient v w x y p q) bs h
   call_like Fun.Index bs h = index_like bs h
   call_like Fun.Match bs h = match_like bs h
   call_like Fun.VLookup bs h = v_lookup_like bs h
   call_like Fun.HLookup bs h = h_lookup_like bs h
+  call_like Fun.Left bs h = counted_like (left_of ts) (left_of us) (λ v w x y p q. left_like v w x y p q) bs h
+  call_like Fun.Right bs h = counted_like (right_of ts) (right_of us) (λ v w x y p q. right_like v w x y p q) bs h
+  call_like Fun.Mid bs h = three_values_like (mid_of ts) (mid_of us) (λ v w x y i j p q r. mid_like v w x y i j p q r) bs h
+  call_like Fun.Len bs h = one_value_like (length_of ts) (length_of us) (λ v w p. length_like v w p) bs h
 
   -- Formulas
 

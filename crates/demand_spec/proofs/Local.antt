@@ -11,13 +11,12 @@ use Rattle.cell_values.specs.declared.values.Shown.{Shown}
 use Rattle.demand_spec.specs.Formula.{plan}
 use Rattle.formula_trees.specs.Mentions.{mentions}
 use Rattle.formula_trees.specs.TextNumbers.{TextsBelow, AllTextsBelow}
-use Rattle.demand_spec.specs.TextNumbers.{TextBelow}
 use Rattle.demand_spec.specs.Book.{Book, Known, formula_at, own, look, ask, ask_formula, ask_cell, value_given, cell_needed, finished, need, follow, shown}
 use Rattle.demand_spec.specs.Laws.{In, Unfinished, IsLoop, Mentions, NeedIsMentioned, NeedIsThere, IsClosed, Reached, start, step, Pending, Set, OfSet, SameOutside, TextsStay, PendingIsClosed, LoopInClosed, ShowsSame}
 use Rattle.demand_spec.proofs.Rounds.{Lacks, look_lacks, finished_again}
 use Rattle.demand_spec.proofs.Loops.{chain_follow, index_of, follow_then}
 use Rattle.demand_spec.proofs.Like.{plan_like}
-use Rattle.demand_spec.proofs.Same.{Meant, meant_respects, tree_self}
+use Rattle.demand_spec.proofs.Same.{Meant, meant_respects, equal_respects, tree_self}
 use Rattle.demand_spec.proofs.Mirror.{LikeAsked, run_like}
 use Rattle.demand_spec.proofs.Untouched.{untouched_like}
 
@@ -25,10 +24,6 @@ use Rattle.demand_spec.proofs.Untouched.{untouched_like}
 
 abbrev All : ℕ → Type 0
 All i = Unit {0}
-
-below_all : (v : Value) → TextBelow All v
-below_all (Value.Text t) = tt
-below_all v = tt
 
 mutual
   texts_below_all : (t : Expr) → TextsBelow All t
@@ -50,21 +45,24 @@ mutual
 
 pub ask_in : (b : Book) (e : Known) (at : Addr) (t : Expr) (x : Addr) → ask b e at t ≡ Needs x → In x (mentions at t) × Lacks b e x x
 ask_in b e at t x h =
-    let p = subst (λ r. LikeAsked Lacking (Meant All) r r) h (run_like Named Lacking (Meant All) (look b e) (look b e) looks (plan b.texts at t) (plan b.texts at t) (plan_like Named (Meant All) b.texts b.texts (meant_respects All b.texts b.texts (λ i k. refl)) at at t t (tree_self Named All at t (texts_below_all t) (λ y k. (refl, k))))) in
+    let p = subst (λ r. LikeAsked Lacking Equal r r) h (run_like Named Lacking Equal (look b e) (look b e) looks (plan b.texts at t) (plan b.texts at t) (plan_like Named Equal b.texts b.texts (equal_respects b.texts) at at t t (tree_self Named Equal All (λ i k. refl) at t (texts_below_all t) (λ y k. (refl, k))))) in
     (p.0, look_lacks b e x x p.1)
   where
+    Equal : Value → Value → Type 0
+    Equal v w = v ≡ w
+
     Named : Addr → Addr → Type 0
     Named a c = (a ≡ c) × In a (mentions at t)
 
     Lacking : Addr → Addr → Type 0
     Lacking a c = In a (mentions at t) × (look b e a ≡ Needs a)
 
-    at_cell : (a : Addr) → In a (mentions at t) → (r : Asked) → look b e a ≡ r → LikeAsked Lacking (Meant All) r r
-    at_cell a k (Val v) q = (refl, below_all v)
+    at_cell : (a : Addr) → In a (mentions at t) → (r : Asked) → look b e a ≡ r → LikeAsked Lacking Equal r r
+    at_cell a k (Val v) q = refl
     at_cell a k (Needs y) q = (let same = (look_lacks b e a y q).same in (subst (λ z. In z (mentions at t)) same k, subst (λ z. look b e z ≡ Needs y) same q))
 
-    looks : (a c : Addr) → Named a c → LikeAsked Lacking (Meant All) (look b e a) (look b e c)
-    looks a c k = subst (λ z. LikeAsked Lacking (Meant All) (look b e a) (look b e z)) k.0 (at_cell a k.1 (look b e a) refl)
+    looks : (a c : Addr) → Named a c → LikeAsked Lacking Equal (look b e a) (look b e c)
+    looks a c k = subst (λ z. LikeAsked Lacking Equal (look b e a) (look b e z)) k.0 (at_cell a k.1 (look b e a) refl)
 
 pub need_is_mentioned : NeedIsMentioned
 unfolding need ask_cell
@@ -145,7 +143,7 @@ module _ (b b' : Book) (meant : ℕ → Type 0) (A : Addr → Type 0) (s : SameO
       (subst (λ v. LikeCells Here (Meant meant) a (formula_at b a) (own b a) a (formula_at b a) v) (s.value a n) (by_formula (formula_at b a) refl))
     where
       by_formula : (o : Option Expr) → formula_at b a ≡ o → LikeCells Here (Meant meant) a o (own b a) a o (own b a)
-      by_formula (Some t) q = tree_self Here meant a t (ts.of_formulas a t q) (λ x k. refl)
+      by_formula (Some t) q = tree_self Here (Meant meant) meant (λ i k. (refl, k)) a t (ts.of_formulas a t q) (λ x k. refl)
       by_formula None q = (refl, ts.of_cells a)
 
   untouched : MirrorsOutside A Here (Meant meant) b b'

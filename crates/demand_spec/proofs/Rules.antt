@@ -1,5 +1,5 @@
 -- What arguments give, and what rules make of it.
-use Rattle.std.proofs.Common.{◌≡◌, ℕ, zero, suc, ◌-◌, ℤ, true, false, arith, Option, Some, None, Result, Ok, Err, refl, sym, ap, ◌∙◌, subst}
+use Rattle.std.proofs.Common.{◌≡◌, ℕ, zero, suc, ◌-◌, ℤ, Bool, true, false, cond, IsFalse, arith, Option, Some, None, Result, Ok, Err, refl, sym, ap, ◌∙◌, subst}
 use Rattle.cell_values.specs.declared.values.Value.{Value}
 use Rattle.cell_values.specs.declared.address.Addr.{Addr}
 use Rattle.cell_values.specs.Texts.{Texts}
@@ -11,20 +11,26 @@ use Rattle.formula_trees.specs.Mentions.{place_of}
 use Rattle.builtin_functions.specs.declared.folds.FoldKind.{FoldKind}
 use Rattle.builtin_functions.specs.declared.operators.Op2.{Op2}
 use Rattle.builtin_functions.specs.Folds.{Total}
-use Rattle.cell_values.specs.Values.{IsValueOf, as_number}
+use Rattle.builtin_functions.specs.Tables.{table, binary_value}
+use Rattle.cell_values.specs.Values.{IsValueOf, as_number, is_error}
 use Rattle.demand_spec.specs.declared.Asked.{Asked}
 use Rattle.demand_spec.specs.declared.Asked.TheVariants.{Val, Needs}
 use Rattle.demand_spec.specs.declared.arguments.Given.{Given}
+use Rattle.demand_spec.specs.declared.arguments.OfOne.{OfOne}
+use Rattle.demand_spec.specs.declared.arguments.OfTwo.{OfTwo}
 use Rattle.demand_spec.specs.Asks.{on_with, and_on, value_or_end, number_or_end, argument_at, ask_chosen, ask_fold, ask_two, fold_part, v_lookup_steps, h_lookup_steps}
 use Rattle.demand_spec.specs.Formula.{from_one}
-use Rattle.demand_spec.specs.Given.{IsAnswerOf, argument_of, given_before, given_by, index_or_end, if_then, sign_of_one, operator_of_two, if_rule, not_rule, if_error_rule, is_error_rule, abs_rule, two_rule, index_rule, match_of, match_rule, lookup_of, lookup_rule}
+use Rattle.demand_spec.specs.Given.{IsAnswerOf, argument_of, given_before, given_by, index_or_end, if_then, sign_of_one, operator_of_two, if_rule, not_rule, if_error_rule, is_error_rule, one_given, one_rule, two_given, two_rule, count_or_one, mid_rule, AreGivenOf, index_rule, match_of, match_rule, lookup_of, lookup_rule}
 use Rattle.demand_spec.specs.Stage.{Sight, book_of, known_of, look_on, ask_on}
-use Rattle.demand_spec.proofs.Asks.{ask_unary, ask_binary, ask_and_more, ask_or_more, ask_if_two, ask_if_three, ask_not, ask_if_error, ask_is_error, ask_abs_all, ask_two_all, ask_index_steps, ask_match_steps, ask_v_lookup_steps, ask_h_lookup_steps, ask_choose, ask_fold_more}
+use Rattle.demand_spec.proofs.Asks.{ask_unary, ask_binary, ask_and_more, ask_or_more, ask_if_two, ask_if_three, ask_not, ask_if_error, ask_is_error, ask_abs_all, ask_len, ask_two_all, ask_left, ask_left_one, ask_right, ask_right_one, ask_mid, binary_is as binary_no_error, ask_index_steps, ask_match_steps, ask_v_lookup_steps, ask_h_lookup_steps, ask_choose, ask_fold_more}
 
 -- a value that goes on is of these texts
 pub value_is_of : (ts : Texts) (a : Asked) (v : Value) → IsAnswerOf ts a → Ok v ≡ value_or_end a → IsValueOf ts v
-value_is_of ts (Val (Value.Error e)) v h e2 = cc
-value_is_of ts (Val w) v h e = (let same : w ≡ v = cc in subst (IsValueOf ts) same h)
+value_is_of ts (Val w) v h e = go (is_error w) e
+  where
+    go : (q : Bool) → Ok v ≡ cond q (Err (Val w)) (Ok w) → IsValueOf ts v
+    go true p = absurd (cc)
+    go false p = (let same : w ≡ v = cc in subst (IsValueOf ts) same h)
 value_is_of ts (Needs x) v h e = cc
 
 -- four arguments or more
@@ -68,25 +74,61 @@ is_error_is s at (More a (More b End)) = refl
 is_error_is s at (More a (More b (More c End))) = refl
 is_error_is s at (More a (More b (More c (More d rest)))) = sym (ap is_error_rule (given_four s at a b c d rest))
 
-pub abs_is : (s : Sight) (at : Addr) (args : Exprs) → ask_on s at (Call Fun.Abs args) ≡ abs_rule (given_by s at args)
+pub abs_is : (s : Sight) (at : Addr) (args : Exprs) → ask_on s at (Call Fun.Abs args) ≡ one_rule (one_given s.texts OfOne.Abs) (given_by s at args)
 abs_is s at End = refl
 abs_is s at (More a End) = ask_abs_all (book_of s) (known_of s) at a
 abs_is s at (More a (More b End)) = refl
 abs_is s at (More a (More b (More c End))) = refl
-abs_is s at (More a (More b (More c (More d rest)))) = sym (ap abs_rule (given_four s at a b c d rest))
+abs_is s at (More a (More b (More c (More d rest)))) = sym (ap (one_rule (one_given s.texts OfOne.Abs)) (given_four s at a b c d rest))
 
-two_is : (s : Sight) (at : Addr) (op : Op2) (args : Exprs) → ask_two (book_of s) (known_of s) at op args ≡ two_rule s.texts op (given_by s at args)
-two_is s at op End = refl
-two_is s at op (More a End) = refl
-two_is s at op (More a (More b End)) = ask_two_all (book_of s) (known_of s) at op a b
-two_is s at op (More a (More b (More c End))) = refl
-two_is s at op (More a (More b (More c (More d rest)))) = sym (ap (two_rule s.texts op) (given_four s at a b c d rest))
+pub len_is : (s : Sight) (at : Addr) (args : Exprs) → ask_on s at (Call Fun.Len args) ≡ one_rule (one_given s.texts OfOne.Len) (given_by s at args)
+len_is s at End = refl
+len_is s at (More a End) = ask_len (book_of s) (known_of s) at a
+len_is s at (More a (More b End)) = refl
+len_is s at (More a (More b (More c End))) = refl
+len_is s at (More a (More b (More c (More d rest)))) = sym (ap (one_rule (one_given s.texts OfOne.Len)) (given_four s at a b c d rest))
 
-pub mod_is : (s : Sight) (at : Addr) (args : Exprs) → ask_on s at (Call Fun.Mod args) ≡ two_rule s.texts Op2.Mod (given_by s at args)
-mod_is s at args = two_is s at Op2.Mod args
+two_is : (s : Sight) (at : Addr) (f g : Value → Value → Value) → ((v w : Value) → IsFalse (is_error v) → IsFalse (is_error w) → f v w ≡ g v w) → (args : Exprs) → ask_two (book_of s) (known_of s) at f args ≡ two_rule g (given_by s at args)
+two_is s at f g h End = refl
+two_is s at f g h (More a End) = refl
+two_is s at f g h (More a (More b End)) = ask_two_all (book_of s) (known_of s) at f g h a b
+two_is s at f g h (More a (More b (More c End))) = refl
+two_is s at f g h (More a (More b (More c (More d rest)))) = sym (ap (two_rule g) (given_four s at a b c d rest))
 
-pub quotient_is : (s : Sight) (at : Addr) (args : Exprs) → ask_on s at (Call Fun.Quotient args) ≡ two_rule s.texts Op2.Quotient (given_by s at args)
-quotient_is s at args = two_is s at Op2.Quotient args
+pub mod_is : (s : Sight) (at : Addr) (args : Exprs) → ask_on s at (Call Fun.Mod args) ≡ two_rule (two_given s.texts (OfTwo.Table Op2.Mod)) (given_by s at args)
+mod_is s at args = two_is s at (table s.texts Op2.Mod) (binary_value s.texts Op2.Mod) (λ v w h k. sym (binary_no_error s.texts Op2.Mod v w h k)) args
+
+pub quotient_is : (s : Sight) (at : Addr) (args : Exprs) → ask_on s at (Call Fun.Quotient args) ≡ two_rule (two_given s.texts (OfTwo.Table Op2.Quotient)) (given_by s at args)
+quotient_is s at args = two_is s at (table s.texts Op2.Quotient) (binary_value s.texts Op2.Quotient) (λ v w h k. sym (binary_no_error s.texts Op2.Quotient v w h k)) args
+
+pub left_is : (s : Sight) (at : Addr) (args : Exprs) → ask_on s at (Call Fun.Left args) ≡ two_rule (two_given s.texts OfTwo.Left) (count_or_one (given_by s at args))
+left_is s at End = refl
+left_is s at (More a End) = ask_left_one (book_of s) (known_of s) at a
+left_is s at (More a (More b End)) = ask_left (book_of s) (known_of s) at a b
+left_is s at (More a (More b (More c End))) = refl
+left_is s at (More a (More b (More c (More d rest)))) = sym (ap (λ g. two_rule (two_given s.texts OfTwo.Left) (count_or_one g)) (given_four s at a b c d rest))
+
+pub right_is : (s : Sight) (at : Addr) (args : Exprs) → ask_on s at (Call Fun.Right args) ≡ two_rule (two_given s.texts OfTwo.Right) (count_or_one (given_by s at args))
+right_is s at End = refl
+right_is s at (More a End) = ask_right_one (book_of s) (known_of s) at a
+right_is s at (More a (More b End)) = ask_right (book_of s) (known_of s) at a b
+right_is s at (More a (More b (More c End))) = refl
+right_is s at (More a (More b (More c (More d rest)))) = sym (ap (λ g. two_rule (two_given s.texts OfTwo.Right) (count_or_one g)) (given_four s at a b c d rest))
+
+pub mid_is : (s : Sight) (at : Addr) (args : Exprs) → ask_on s at (Call Fun.Mid args) ≡ mid_rule s.texts (given_by s at args)
+mid_is s at End = refl
+mid_is s at (More a End) = refl
+mid_is s at (More a (More b End)) = refl
+mid_is s at (More a (More b (More c End))) = ask_mid (book_of s) (known_of s) at a b c
+mid_is s at (More a (More b (More c (More d rest)))) = sym (ap (mid_rule s.texts) (given_four s at a b c d rest))
+
+-- where 1 stands for a count, the values are still of these texts
+pub counted_given : (ts : Texts) (g : Given) → AreGivenOf ts g → AreGivenOf ts (count_or_one g)
+counted_given ts Given.Zero h = tt
+counted_given ts (Given.One a) h = (h, tt)
+counted_given ts (Given.Two a b) h = h
+counted_given ts (Given.Three a b c) h = h
+counted_given ts (Given.Four a b c) h = h
 
 pub index_is : (s : Sight) (at : Addr) (args : Exprs) → ask_on s at (Call Fun.Index args) ≡ index_rule s (given_by s at args)
 index_is s at End = refl

@@ -1,6 +1,7 @@
 -- A formula corresponds to itself, at the cells that it mentions, where each of its texts has a number that is meant.
 use Rattle.std.proofs.Common.{◌≡◌, ℕ, [], refl, ap, subst, inl, Option, Some, None, option_to_list, slice_index_or}
 use Rattle.cell_values.specs.declared.address.Addr.{Addr}
+use Rattle.cell_values.specs.declared.interned.TextId.{TextId}
 use Rattle.cell_values.specs.declared.values.Value.{Value}
 use Rattle.cell_values.specs.Areas.{cell_of}
 use Rattle.cell_values.specs.Texts.{Texts}
@@ -22,6 +23,7 @@ Meant n v w = (v ≡ w) × TextBelow n v
 
 plain_below : (n : ℕ → Type 0) (v : Value) → IsPlain v → TextBelow n v
 plain_below n (Value.Text t) h = absurd h
+plain_below n (Value.Short t) h = h
 plain_below n v h = tt
 
 pub meant_respects : (n : ℕ → Type 0) (ts us : Texts) → ((i : ℕ) → n i → slice_index_or ts i [] ≡ slice_index_or us i []) → Respects ts us (Meant n)
@@ -40,21 +42,25 @@ place_self R (Cells r) h = record { high = refl; wide = refl; cells = λ i j l k
 place_self R Bad h = tt
 place_self R Nowhere h = tt
 
-mutual
-  pub tree_self : (R : OnCells) (n : ℕ → Type 0) (at : Addr) (t : Expr) → TextsBelow n t → ((x : Addr) → In x (mentions at t) → R x x) → LikeTrees R (Meant n) at t at t
-  tree_self R n at (Number z) ok h = refl
-  tree_self R n at (Text i) ok h = (refl, ok)
-  tree_self R n at (Truth q) ok h = refl
-  tree_self R n at (Ref r) ok h = option_self R (resolve at r) h
-  tree_self R n at (Range p q) ok h = place_self R (place_of at (Range p q)) h
-  tree_self R n at RefError ok h = tt
-  tree_self R n at (Unary g a) ok h = (refl, tree_self R n at a ok h)
-  tree_self R n at (Binary o a b) ok h = (refl, tree_self R n at a ok.0 (λ x k. h x (in_left x (mentions at a) (mentions at b) k)), tree_self R n at b ok.1 (λ x k. h x (in_right x (mentions at a) (mentions at b) k)))
-  tree_self R n at (Call f args) ok h = (refl, all_self R n at args ok h)
+-- each text of which `n` holds is related to itself
+abbrev pub AreLikeThemselves : OnValues → (ℕ → Type 0) → Type 0
+AreLikeThemselves V n = (i : TextId) → n i.0 → V (Value.Text i) (Value.Text i)
 
-  all_self : (R : OnCells) (n : ℕ → Type 0) (at : Addr) (args : Exprs) → AllTextsBelow n args → ((x : Addr) → In x (mentions_all at args) → R x x) → AllLikeTrees R (Meant n) at args at args
-  all_self R n at End ok h = tt
-  all_self R n at (More a rest) ok h = (tree_self R n at a ok.0 (λ x k. h x (in_left x (mentions at a) (mentions_all at rest) k)), all_self R n at rest ok.1 (λ x k. h x (in_right x (mentions at a) (mentions_all at rest) k)))
+mutual
+  pub tree_self : (R : OnCells) (V : OnValues) (n : ℕ → Type 0) → AreLikeThemselves V n → (at : Addr) (t : Expr) → TextsBelow n t → ((x : Addr) → In x (mentions at t) → R x x) → LikeTrees R V at t at t
+  tree_self R V n s at (Number z) ok h = refl
+  tree_self R V n s at (Text i) ok h = s i ok
+  tree_self R V n s at (Truth q) ok h = refl
+  tree_self R V n s at (Ref r) ok h = option_self R (resolve at r) h
+  tree_self R V n s at (Range p q) ok h = place_self R (place_of at (Range p q)) h
+  tree_self R V n s at RefError ok h = tt
+  tree_self R V n s at (Unary g a) ok h = (refl, tree_self R V n s at a ok h)
+  tree_self R V n s at (Binary o a b) ok h = (refl, tree_self R V n s at a ok.0 (λ x k. h x (in_left x (mentions at a) (mentions at b) k)), tree_self R V n s at b ok.1 (λ x k. h x (in_right x (mentions at a) (mentions at b) k)))
+  tree_self R V n s at (Call f args) ok h = (refl, all_self R V n s at args ok h)
+
+  all_self : (R : OnCells) (V : OnValues) (n : ℕ → Type 0) → AreLikeThemselves V n → (at : Addr) (args : Exprs) → AllTextsBelow n args → ((x : Addr) → In x (mentions_all at args) → R x x) → AllLikeTrees R V at args at args
+  all_self R V n s at End ok h = tt
+  all_self R V n s at (More a rest) ok h = (tree_self R V n s at a ok.0 (λ x k. h x (in_left x (mentions at a) (mentions_all at rest) k)), all_self R V n s at rest ok.1 (λ x k. h x (in_right x (mentions at a) (mentions_all at rest) k)))
 
 -- other texts under other numbers: values are related that are the same to every operation
 abbrev pub SameClass : Texts → Texts → OnValues
@@ -66,3 +72,7 @@ class_respects ts us = record { plain = go; same_class = λ v w e. e }
     go : (v : Value) → IsPlain v → class ts v ≡ class us v
     go (Value.Text t) h = absurd h
     go v h = refl
+
+-- equal values
+pub equal_respects : (ts : Texts) → Respects ts ts (λ v w. v ≡ w)
+equal_respects ts = record { plain = λ v p. refl; same_class = λ v w e. ap (class ts) e }

@@ -64,6 +64,7 @@ look_text s h a r e = go (look_on s a) refl r e
 
 below : (ts : Texts) (v : Value) → IsValueOf ts v → TextBelow (λ i. i < length ts) v
 below ts (Value.Text t) h = h
+below ts (Value.Short t) h = h
 below ts (Value.Number t) h = tt
 below ts (Value.Bool t) h = tt
 below ts Value.Blank h = tt
@@ -71,13 +72,14 @@ below ts (Value.Error t) h = tt
 
 above : (ts : Texts) (v : Value) → TextBelow (λ i. i < length ts) v → IsValueOf ts v
 above ts (Value.Text t) h = h
+above ts (Value.Short t) h = h
 above ts (Value.Number t) h = tt
 above ts (Value.Bool t) h = tt
 above ts Value.Blank h = tt
 above ts (Value.Error t) h = tt
 
 ask_below : (cells : List (Addr × Content)) (ts : Texts) (e : Known) → AreFoundOf ts cells → AreKnownOf ts e → (at : Addr) (t : Expr) → IsFormulaOf ts t → (v : Value) → ask (book_with cells ts) e at t ≡ Val v → IsValueOf ts v
-ask_below cells ts e h m at t k v q = above ts v (subst (λ r. LikeAsked Any (Meant Below) r r) q (run_like Same Any (Meant Below) (look (book_with cells ts) e) (look (book_with cells ts) e) looks (plan ts at t) (plan ts at t) (plan_like Same (Meant Below) ts ts (meant_respects Below ts ts (λ i l. refl)) at at t t (tree_self Same Below at t k (λ x l. refl))))).1
+ask_below cells ts e h m at t k v q = above ts v (subst (λ r. LikeAsked Any (Meant Below) r r) q (run_like Same Any (Meant Below) (look (book_with cells ts) e) (look (book_with cells ts) e) looks (plan ts at t) (plan ts at t) (plan_like Same (Meant Below) ts ts (meant_respects Below ts ts (λ i l. refl)) at at t t (tree_self Same (Meant Below) Below (λ i l. (refl, l)) at t k (λ x l. refl))))).1
   where
     Below : ℕ → Type 0
     Below i = i < length ts

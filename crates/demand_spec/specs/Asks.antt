@@ -1,5 +1,5 @@
 -- What the parts of a formula give: something to go on with, or what the whole formula gives.
-use Rattle.std.specs.Prelude.{ℕ, zero, suc, ℤ, pos, negsuc, nat_lt, List, [], ◌∷◌, Bool, true, false, cond, Option, Some, None, option_and_then, Result, Ok, Err}
+use Rattle.std.specs.Prelude.{ℕ, zero, suc, ℤ, pos, negsuc, nat_lt, List, [], ◌∷◌, Bool, true, false, cond, if◌then◌else◌, Option, Some, None, option_and_then, Result, Ok, Err}
 use Rattle.cell_values.specs.declared.address.Addr.{Addr}
 use Rattle.cell_values.specs.declared.address.Area.{Area}
 use Rattle.cell_values.specs.declared.values.Code.{Code}
@@ -9,15 +9,14 @@ use Rattle.cell_values.specs.Texts.{Texts}
 use Rattle.formula_trees.specs.Expr.{Expr, Exprs, End, More}
 use Rattle.formula_trees.specs.declared.place.Place.{Place}
 use Rattle.formula_trees.specs.declared.place.Place.TheVariants.{Nowhere, Bad, Cells}
-use Rattle.builtin_functions.specs.declared.operators.Op2.{Op2}
 use Rattle.builtin_functions.specs.declared.folds.FoldKind.{FoldKind}
-use Rattle.builtin_functions.specs.Tables.{condition, table}
+use Rattle.builtin_functions.specs.Tables.{condition}
 use Rattle.cell_values.specs.Values.{as_number, is_error}
 use Rattle.builtin_functions.specs.Folds.{Total, taken}
 use Rattle.demand_spec.specs.declared.Asked.{Asked}
 use Rattle.demand_spec.specs.declared.Asked.TheVariants.{Val, Needs}
 use Rattle.demand_spec.specs.Plan.{run}
-use Rattle.demand_spec.specs.Formula.{fold_plan, two_numbers, arguments, is_found}
+use Rattle.demand_spec.specs.Formula.{fold_plan, two_values, arguments, is_found}
 use Rattle.demand_spec.specs.Book.{Book, Known, look, ask}
 
 -- what was found goes on; else the formula has ended
@@ -45,8 +44,7 @@ any_value (Needs x) = Err (Needs x)
 
 -- a value that is no error; an error or a need ends the formula
 abbrev pub value_or_end : Asked → Result Value Asked
-value_or_end (Val (Value.Error e)) = fails_with e
-value_or_end (Val v) = Ok v
+value_or_end (Val v) = if is_error v then Err (Val v) else Ok v
 value_or_end (Needs x) = Err (Needs x)
 
 abbrev pub or_fails : {T : Type 0} → Result T Code → Result T Asked
@@ -119,9 +117,9 @@ abbrev pub search_looks : (Addr → Asked) → Texts → Value → ℕ → List 
 search_looks l ts key n [] = Ok None
 search_looks l ts key n (a ∷ rest) = and_on (any_value (l a)) (λ v. cond (is_found ts key v) (Ok (Some n)) (search_looks l ts key (suc n) rest))
 
--- a function of two numbers over its arguments
-abbrev pub ask_two : Book → Known → Addr → Op2 → Exprs → Asked
-ask_two b e at op args = run (look b e) (two_numbers (table b.texts op) (arguments b.texts at args))
+-- a function of two values over its arguments
+abbrev pub ask_two : Book → Known → Addr → (Value → Value → Value) → Exprs → Asked
+ask_two b e at f args = run (look b e) (two_values f (arguments b.texts at args))
 
 -- INDEX, MATCH, VLOOKUP and HLOOKUP behind the values that they take
 

@@ -1,5 +1,5 @@
 -- What each formula does, demand by demand.
-use Rattle.std.specs.Prelude.{ℕ, zero, suc, Bool, true, false, cond, not, ℤ, pos, negsuc, nat_lt, Option, Some, None, Result, Ok, Err, List, [], ◌∷◌}
+use Rattle.std.specs.Prelude.{ℕ, zero, suc, Bool, true, false, cond, not, if◌then◌else◌, ℤ, pos, negsuc, nat_lt, Option, Some, None, Result, Ok, Err, List, [], ◌∷◌}
 use Rattle.cell_values.specs.declared.address.Addr.{Addr}
 use Rattle.cell_values.specs.declared.address.Area.{Area}
 use Rattle.cell_values.specs.declared.values.Code.{Code}
@@ -17,9 +17,10 @@ use Rattle.formula_trees.specs.Mentions.{place_of}
 use Rattle.builtin_functions.specs.declared.operators.Op2.{Op2}
 use Rattle.builtin_functions.specs.declared.operators.Sign2.{Sign2}
 use Rattle.builtin_functions.specs.declared.folds.FoldKind.{FoldKind}
-use Rattle.builtin_functions.specs.Tables.{same, table, sign_table, unary_value, binary_value, condition}
+use Rattle.builtin_functions.specs.Tables.{same, table, sign_table, unary_value, condition}
 use Rattle.cell_values.specs.Values.{is_error, as_number}
 use Rattle.builtin_functions.specs.Folds.{Total, so_far, taken}
+use Rattle.computed_text.specs.Computed.{joined, left_of, right_of, mid_of, length_of}
 use Rattle.demand_spec.specs.Plan.{Plan, Give, Demand, and_then}
 
 abbrev pub fails : Code → Plan
@@ -27,8 +28,7 @@ fails e = Give (Value.Error e)
 
 -- the value goes on, an error ends the formula
 abbrev pub unless_error : Value → (Value → Plan) → Plan
-unless_error (Value.Error e) f = fails e
-unless_error v f = f v
+unless_error v f = if is_error v then Give v else f v
 
 abbrev pub value_of : Plan → (Value → Plan) → Plan
 value_of p f = and_then p (λ v. unless_error v f)
@@ -132,15 +132,24 @@ abbrev pub fold_plan : FoldKind → Total → List Argument → Plan
 fold_plan k t [] = Give (Value.Number (so_far t))
 fold_plan k t (a ∷ rest) = fold_argument k t a.place a.value (λ u. fold_plan k u rest)
 
--- ABS, MOD, QUOTIENT
+-- ABS and LEN, MOD and QUOTIENT, MID: functions of one value, of two, of three
 
-abbrev pub one_number : (Value → Value) → List Argument → Plan
-one_number f (a ∷ []) = value_of a.value (λ x. Give (f x))
-one_number f _ = fails Code.Value
+abbrev pub one_value : (Value → Value) → List Argument → Plan
+one_value f (a ∷ []) = value_of a.value (λ x. Give (f x))
+one_value f _ = fails Code.Value
 
-abbrev pub two_numbers : (Value → Value → Value) → List Argument → Plan
-two_numbers f (a ∷ b ∷ []) = value_of a.value (λ x. value_of b.value (λ y. Give (f x y)))
-two_numbers f _ = fails Code.Value
+abbrev pub two_values : (Value → Value → Value) → List Argument → Plan
+two_values f (a ∷ b ∷ []) = value_of a.value (λ x. value_of b.value (λ y. Give (f x y)))
+two_values f _ = fails Code.Value
+
+abbrev pub three_values : (Value → Value → Value → Value) → List Argument → Plan
+three_values f (a ∷ b ∷ c ∷ []) = value_of a.value (λ x. value_of b.value (λ y. value_of c.value (λ z. Give (f x y z))))
+three_values f _ = fails Code.Value
+
+-- LEFT and RIGHT: 1 stands for a count that is not given
+abbrev pub with_one : List Argument → List Argument
+with_one (t ∷ []) = t ∷ record { value = Give (Value.Number (pos 1)); place = Nowhere } ∷ []
+with_one args = args
 
 -- INDEX, MATCH, VLOOKUP, HLOOKUP
 
@@ -148,7 +157,10 @@ two_numbers f _ = fails Code.Value
 abbrev pub is_found : Texts → Value → Value → Bool
 is_found ts key (Value.Error e) = false
 is_found ts key Value.Blank = false
-is_found ts key v = same ts v key
+is_found ts key (Value.Number n) = same ts (Value.Number n) key
+is_found ts key (Value.Text t) = same ts (Value.Text t) key
+is_found ts key (Value.Short t) = same ts (Value.Short t) key
+is_found ts key (Value.Bool b) = same ts (Value.Bool b) key
 
 -- the cells in order up to the first that is equal; its number in the list goes on, counted from 0
 abbrev pub search_plan : Texts → Value → ℕ → List Addr → (ℕ → Plan) → Plan
@@ -197,38 +209,48 @@ call_plan ts Fun.Sum args = fold_plan FoldKind.Sum None args
 call_plan ts Fun.Min args = fold_plan FoldKind.Min None args
 call_plan ts Fun.Max args = fold_plan FoldKind.Max None args
 call_plan ts Fun.Count args = fold_plan FoldKind.Count None args
-call_plan ts Fun.Abs args = one_number (sign_table Sign2.Abs) args
-call_plan ts Fun.Mod args = two_numbers (table ts Op2.Mod) args
-call_plan ts Fun.Quotient args = two_numbers (table ts Op2.Quotient) args
+call_plan ts Fun.Abs args = one_value (sign_table Sign2.Abs) args
+call_plan ts Fun.Mod args = two_values (table ts Op2.Mod) args
+call_plan ts Fun.Quotient args = two_values (table ts Op2.Quotient) args
 call_plan ts Fun.Index args = index_plan args
 call_plan ts Fun.Match args = match_plan ts args
 call_plan ts Fun.VLookup args = v_lookup_plan ts args
 call_plan ts Fun.HLookup args = h_lookup_plan ts args
+call_plan ts Fun.Left args = two_values (left_of ts) (with_one args)
+call_plan ts Fun.Right args = two_values (right_of ts) (with_one args)
+call_plan ts Fun.Mid args = three_values (mid_of ts) args
+call_plan ts Fun.Len args = one_value (length_of ts) args
 
 abbrev pub demand_of : Option Addr → Plan
 demand_of (Some a) = Demand a Give
 demand_of None = fails Code.Ref
 
--- the table's operator
-abbrev pub op_of : Op → Op2
-op_of Op.Add = Op2.Add
-op_of Op.Sub = Op2.Sub
-op_of Op.Mul = Op2.Mul
-op_of Op.Div = Op2.Div
-op_of Op.Eq = Op2.Eq
-op_of Op.Ne = Op2.Ne
-op_of Op.Lt = Op2.Lt
-op_of Op.Le = Op2.Le
-op_of Op.Gt = Op2.Gt
-op_of Op.Ge = Op2.Ge
+-- the operator of the table, none for `&`
+abbrev pub op_of : Op → Option Op2
+op_of Op.Add = Some Op2.Add
+op_of Op.Sub = Some Op2.Sub
+op_of Op.Mul = Some Op2.Mul
+op_of Op.Div = Some Op2.Div
+op_of Op.Eq = Some Op2.Eq
+op_of Op.Ne = Some Op2.Ne
+op_of Op.Lt = Some Op2.Lt
+op_of Op.Le = Some Op2.Le
+op_of Op.Gt = Some Op2.Gt
+op_of Op.Ge = Some Op2.Ge
+op_of Op.Join = None
 
 abbrev pub sign_of : Sign → Sign2
 sign_of Sign.Minus = Sign2.Minus
 sign_of Sign.Plus = Sign2.Plus
 
--- what a two-sided operator gives at any two values, and a sign at one; an error is the answer
+-- an operator at two values of which none is an error: that of the table, or else the texts joined
+abbrev pub operator_table : Texts → Option Op2 → Value → Value → Value
+operator_table ts (Some op) a b = table ts op a b
+operator_table ts None a b = joined ts a b
+
+-- what a two-sided operator gives at any two values, and a sign at one; an error is the answer, the left one before the right one
 abbrev pub operator_value : Texts → Op → Value → Value → Value
-operator_value ts o a b = binary_value ts (op_of o) a b
+operator_value ts o a b = if is_error a then a else if is_error b then b else operator_table ts (op_of o) a b
 
 abbrev pub sign_value : Sign → Value → Value
 sign_value s a = unary_value (sign_of s) a

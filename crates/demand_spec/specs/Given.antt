@@ -1,5 +1,5 @@
 -- What the arguments of a call give, and what the call gives from that.
-use Rattle.std.specs.Prelude.{ℕ, false, not, cond, Option, Result, Ok}
+use Rattle.std.specs.Prelude.{ℕ, pos, false, not, cond, Option, Result, Ok}
 use Rattle.cell_values.specs.declared.address.Addr.{Addr}
 use Rattle.cell_values.specs.declared.values.Code.{Code}
 use Rattle.cell_values.specs.declared.values.Value.{Value}
@@ -8,8 +8,8 @@ use Rattle.formula_trees.specs.declared.tree.Op.{Op}
 use Rattle.formula_trees.specs.declared.tree.Sign.{Sign}
 use Rattle.formula_trees.specs.Expr.{Expr, Exprs, End, More}
 use Rattle.formula_trees.specs.declared.place.Place.{Place}
+use Rattle.formula_trees.specs.declared.place.Place.TheVariants.{Nowhere}
 use Rattle.formula_trees.specs.Mentions.{place_of, HasArea}
-use Rattle.builtin_functions.specs.declared.operators.Op2.{Op2}
 use Rattle.builtin_functions.specs.declared.operators.Sign2.{Sign2}
 use Rattle.builtin_functions.specs.Tables.{unary_value, binary_value}
 use Rattle.cell_values.specs.Values.{IsValueOf, as_number, is_error}
@@ -17,6 +17,9 @@ use Rattle.demand_spec.specs.declared.Asked.{Asked}
 use Rattle.demand_spec.specs.declared.Asked.TheVariants.{Val, Needs}
 use Rattle.demand_spec.specs.declared.arguments.Argument.{Argument}
 use Rattle.demand_spec.specs.declared.arguments.Given.{Given}
+use Rattle.demand_spec.specs.declared.arguments.OfOne.{OfOne}
+use Rattle.demand_spec.specs.declared.arguments.OfTwo.{OfTwo}
+use Rattle.computed_text.specs.Computed.{left_of, right_of, mid_of, length_of}
 use Rattle.demand_spec.specs.Asks.{on_with, and_on, any_value, value_or_end, condition_or_end, number_or_end, if_error, index_steps, match_steps}
 use Rattle.demand_spec.specs.Formula.{from_one, operator_value, sign_value}
 use Rattle.demand_spec.specs.Stage.{Sight, look_on, ask_on}
@@ -89,15 +92,42 @@ abbrev pub is_error_rule : Given → Asked
 is_error_rule (Given.One a) = is_error_of a.value
 is_error_rule _ = Val (Value.Error Code.Value)
 
--- ABS
-abbrev pub abs_rule : Given → Asked
-abs_rule (Given.One a) = on_with (value_or_end a.value) (λ x. Val (unary_value Sign2.Abs x))
-abs_rule _ = Val (Value.Error Code.Value)
+-- functions of one value
 
--- MOD and QUOTIENT
-abbrev pub two_rule : Texts → Op2 → Given → Asked
-two_rule ts op (Given.Two a b) = on_with (value_or_end a.value) (λ x. on_with (value_or_end b.value) (λ y. Val (binary_value ts op x y)))
-two_rule ts op _ = Val (Value.Error Code.Value)
+abbrev pub one_given : Texts → OfOne → Value → Value
+one_given ts OfOne.Abs x = unary_value Sign2.Abs x
+one_given ts OfOne.Len x = length_of ts x
+
+abbrev pub one_rule : (Value → Value) → Given → Asked
+one_rule f (Given.One a) = on_with (value_or_end a.value) (λ x. Val (f x))
+one_rule f _ = Val (Value.Error Code.Value)
+
+-- functions of two values
+
+abbrev pub two_given : Texts → OfTwo → Value → Value → Value
+two_given ts (OfTwo.Table op) x y = binary_value ts op x y
+two_given ts OfTwo.Left x y = left_of ts x y
+two_given ts OfTwo.Right x y = right_of ts x y
+
+abbrev pub two_rule : (Value → Value → Value) → Given → Asked
+two_rule f (Given.Two a b) = on_with (value_or_end a.value) (λ x. on_with (value_or_end b.value) (λ y. Val (f x y)))
+two_rule f _ = Val (Value.Error Code.Value)
+
+-- LEFT and RIGHT: 1 stands for a count that is not given
+abbrev pub count_or_one : Given → Given
+count_or_one Given.Zero = Given.Zero
+count_or_one (Given.One t) = Given.Two t (record { value = Val (Value.Number (pos 1)); place = Nowhere })
+count_or_one (Given.Two t n) = Given.Two t n
+count_or_one (Given.Three a b c) = Given.Three a b c
+count_or_one (Given.Four a b c) = Given.Four a b c
+
+-- MID
+abbrev pub mid_of_three : Texts → Asked → Asked → Asked → Asked
+mid_of_three ts t s n = on_with (value_or_end t) (λ x. on_with (value_or_end s) (λ i. on_with (value_or_end n) (λ k. Val (mid_of ts x i k))))
+
+abbrev pub mid_rule : Texts → Given → Asked
+mid_rule ts (Given.Three t s n) = mid_of_three ts t.value s.value n.value
+mid_rule ts _ = Val (Value.Error Code.Value)
 
 abbrev pub index_rule : Sight → Given → Asked
 index_rule s (Given.Three range row col) = on_with (value_or_end row.value) (λ v. on_with (value_or_end col.value) (λ w. index_steps (look_on s) v w range.place))

@@ -16,7 +16,7 @@ use Rattle.demand_spec.specs.TextNumbers.{TextBelow}
 use Rattle.demand_spec.specs.Book.{Book, formula_at, own, shown}
 use Rattle.demand_spec.specs.Laws.{HasPeriod, Reached, Set, OfSet}
 
--- a value that is no interned text
+-- a value that names no text of the book
 abbrev pub IsPlain : Value → Type 0
 IsPlain v = TextBelow (λ i. ⊥) v
 

@@ -19,6 +19,7 @@ use Rattle.builtin_functions.specs.Tables.{table, sign_table}
 use Rattle.cell_values.specs.Values.{as_number, is_error}
 use Rattle.builtin_functions.specs.Folds.{Total, end_value}
 use Rattle.demand_spec.specs.declared.Asked.TheVariants.{Val}
+use Rattle.computed_text.specs.Computed.{joined, left_of, right_of, mid_of, length_of}
 use Rattle.demand_spec.specs.Formula.{from_one, operator_value, sign_value}
 use Rattle.demand_spec.specs.Book.{Book, Known, look, ask}
 use Rattle.demand_spec.specs.Asks.{on_with, any_value, value_or_end, condition_or_end, number_or_end, cells_or_end, up_to_or_end, found_or_end, if_error, ask_chosen, fold_part, ask_fold, search_looks}
@@ -44,6 +45,34 @@ SignGives = (b : Book) (e : Known) (at : Addr) (s : Sign) (t : Expr) → ask b e
 -- a two-sided operator
 abbrev pub OperatorGives : Type 0
 OperatorGives = (b : Book) (e : Known) (at : Addr) (o : Op) (t u : Expr) → ask b e at (Binary o t u) ≡ on_with (value_or_end (ask b e at t)) (λ x. on_with (value_or_end (ask b e at u)) (λ y. Val (operator_value b.texts o x y)))
+
+-- `&`
+abbrev pub JoinGives : Type 0
+JoinGives = (b : Book) (e : Known) (at : Addr) (t u : Expr) → ask b e at (Binary Op.Join t u) ≡ on_with (value_or_end (ask b e at t)) (λ x. on_with (value_or_end (ask b e at u)) (λ y. Val (joined b.texts x y)))
+
+-- LEFT
+abbrev pub LeftGives : Type 0
+LeftGives = (b : Book) (e : Known) (at : Addr) (t n : Expr) → ask b e at (Call Fun.Left (More t (More n End))) ≡ on_with (value_or_end (ask b e at t)) (λ x. on_with (value_or_end (ask b e at n)) (λ k. Val (left_of b.texts x k)))
+
+-- LEFT without a count
+abbrev pub ShortLeftGives : Type 0
+ShortLeftGives = (b : Book) (e : Known) (at : Addr) (t : Expr) → ask b e at (Call Fun.Left (More t End)) ≡ on_with (value_or_end (ask b e at t)) (λ x. Val (left_of b.texts x (Value.Number (pos 1))))
+
+-- RIGHT
+abbrev pub RightGives : Type 0
+RightGives = (b : Book) (e : Known) (at : Addr) (t n : Expr) → ask b e at (Call Fun.Right (More t (More n End))) ≡ on_with (value_or_end (ask b e at t)) (λ x. on_with (value_or_end (ask b e at n)) (λ k. Val (right_of b.texts x k)))
+
+-- RIGHT without a count
+abbrev pub ShortRightGives : Type 0
+ShortRightGives = (b : Book) (e : Known) (at : Addr) (t : Expr) → ask b e at (Call Fun.Right (More t End)) ≡ on_with (value_or_end (ask b e at t)) (λ x. Val (right_of b.texts x (Value.Number (pos 1))))
+
+-- MID
+abbrev pub MidGives : Type 0
+MidGives = (b : Book) (e : Known) (at : Addr) (t s n : Expr) → ask b e at (Call Fun.Mid (More t (More s (More n End)))) ≡ on_with (value_or_end (ask b e at t)) (λ x. on_with (value_or_end (ask b e at s)) (λ i. on_with (value_or_end (ask b e at n)) (λ k. Val (mid_of b.texts x i k))))
+
+-- LEN
+abbrev pub LenGives : Type 0
+LenGives = (b : Book) (e : Known) (at : Addr) (t : Expr) → ask b e at (Call Fun.Len (More t End)) ≡ on_with (value_or_end (ask b e at t)) (λ x. Val (length_of b.texts x))
 
 -- MOD
 abbrev pub ModGives : Type 0

@@ -9,8 +9,10 @@ ghost use Rattle.formula_trees.specs.Expr.{expr_of, exprs_of, Call};
 ghost use Rattle.formula_trees.specs.Mentions.{HasArea};
 
 use crate::Asked;
-use crate::arguments::{Argument, Given, if_then, index_of, operator_of_two, sign_of_one};
-use crate::calls::{call_abs, call_if, call_if_error, call_is_error, call_not, call_two};
+use crate::arguments::{
+    Argument, Given, OfOne, OfTwo, count_or_one, if_then, index_of, operator_of_two, sign_of_one,
+};
+use crate::calls::{call_if, call_if_error, call_is_error, call_mid, call_not, call_one, call_two};
 use crate::context::Stage;
 use crate::outcomes::fails;
 use builtin_functions::{FoldKind, Op2};
@@ -72,7 +74,7 @@ impl<'a> Stage<'a> {
 
     /// What a function gives.
     #[cycle(formula)]
-    #[tactic(auto, using(crate::proofs::Rules::if_is, crate::proofs::Rules::not_is, crate::proofs::Rules::if_error_is, crate::proofs::Rules::is_error_is, crate::proofs::Rules::abs_is, crate::proofs::Rules::mod_is, crate::proofs::Rules::quotient_is, crate::proofs::Rules::index_is, crate::proofs::Rules::match_is, crate::proofs::Rules::v_lookup_is, crate::proofs::Rules::h_lookup_is))]
+    #[tactic(auto, using(crate::proofs::Rules::if_is, crate::proofs::Rules::not_is, crate::proofs::Rules::if_error_is, crate::proofs::Rules::is_error_is, crate::proofs::Rules::abs_is, crate::proofs::Rules::mod_is, crate::proofs::Rules::quotient_is, crate::proofs::Rules::left_is, crate::proofs::Rules::right_is, crate::proofs::Rules::mid_is, crate::proofs::Rules::len_is, crate::proofs::Rules::counted_given, crate::proofs::Rules::index_is, crate::proofs::Rules::match_is, crate::proofs::Rules::v_lookup_is, crate::proofs::Rules::h_lookup_is))]
     fn call(&self, fun: Fun, args: &Args, at: Addr) -> Asked
         requires { AreArgumentsOf self.now.texts (exprs_of args.now) }
         ensures { result ≡ ask_on self.now at (Call fun (exprs_of args.now)) }
@@ -89,9 +91,25 @@ impl<'a> Stage<'a> {
             Fun::Min => self.fold(FoldKind::Min, None, args, at),
             Fun::Max => self.fold(FoldKind::Max, None, args, at),
             Fun::Count => self.fold(FoldKind::Count, None, args, at),
-            Fun::Abs => call_abs(self.given(args, at)),
-            Fun::Mod => call_two(Op2::Mod, self.given(args, at), self.texts()),
-            Fun::Quotient => call_two(Op2::Quotient, self.given(args, at), self.texts()),
+            Fun::Abs => call_one(OfOne::Abs, self.given(args, at), self.texts()),
+            Fun::Len => call_one(OfOne::Len, self.given(args, at), self.texts()),
+            Fun::Mod => call_two(OfTwo::Table(Op2::Mod), self.given(args, at), self.texts()),
+            Fun::Quotient => call_two(
+                OfTwo::Table(Op2::Quotient),
+                self.given(args, at),
+                self.texts(),
+            ),
+            Fun::Left => call_two(
+                OfTwo::Left,
+                count_or_one(self.given(args, at)),
+                self.texts(),
+            ),
+            Fun::Right => call_two(
+                OfTwo::Right,
+                count_or_one(self.given(args, at)),
+                self.texts(),
+            ),
+            Fun::Mid => call_mid(self.given(args, at), self.texts()),
             Fun::Index => self.call_index(self.given(args, at)),
             Fun::Match => self.call_match(self.given(args, at)),
             Fun::VLookup => self.call_v_lookup(self.given(args, at)),

@@ -23,7 +23,9 @@ fn is_found(key: Value, value: Value, texts: &Texts) -> bool
 {
     match value {
         Value::Error(_) | Value::Blank => false,
-        Value::Number(_) | Value::Text(_) | Value::Bool(_) => same(value, key, texts),
+        Value::Number(_) | Value::Text(_) | Value::Short(_) | Value::Bool(_) => {
+            same(value, key, texts)
+        }
     }
 }
 

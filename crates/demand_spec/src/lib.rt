@@ -5,7 +5,7 @@ ghost use Rattle.demand_spec.specs.Laws.{AskGrows, RoundsEnd, NeedIsThere, NeedI
 ghost use Rattle.demand_spec.specs.Like.{MirroredBy, MirroredOutsideBy};
 ghost use Rattle.demand_spec.specs.Results.{ShowsOwn, ShowsItsTexts, NeedsAreLacking, DemandsAreNeeds};
 ghost use Rattle.demand_spec.specs.Edits.{CellsAreLookups, ListsAreMembers, EditApplies, AppliedOnly, TooLargeByLength, PendingListed, PendingListIsClosed, AllStayPending};
-ghost use Rattle.demand_spec.specs.Recursion.{LiteralGives, ReferenceGives, SignGives, OperatorGives, ModGives, QuotientGives, AbsGives, IfGives, ShortIfGives, AndGives, OrGives, NoneGive, NotGives, IfErrorGives, IsErrorGives, ChooseGives, FoldGives, FoldEnds, IndexGives, MatchGives, VLookupGives, HLookupGives};
+ghost use Rattle.demand_spec.specs.Recursion.{LiteralGives, ReferenceGives, SignGives, OperatorGives, JoinGives, LeftGives, ShortLeftGives, RightGives, ShortRightGives, MidGives, LenGives, ModGives, QuotientGives, AbsGives, IfGives, ShortIfGives, AndGives, OrGives, NoneGive, NotGives, IfErrorGives, IsErrorGives, ChooseGives, FoldGives, FoldEnds, IndexGives, MatchGives, VLookupGives, HLookupGives};
 
 mod all_rounds;
 mod arguments;
@@ -148,6 +148,17 @@ pub fn law_operators_recur()
     ensures modulo { ModGives }
     ensures quotient { QuotientGives }
     ensures absolute { AbsGives }
+{}
+
+/// What `&`, LEFT, RIGHT, MID and LEN give, from what their arguments give, the first one first.
+pub fn law_texts_recur()
+    ensures joined { JoinGives }
+    ensures left { LeftGives }
+    ensures one_left { ShortLeftGives }
+    ensures right { RightGives }
+    ensures one_right { ShortRightGives }
+    ensures middle { MidGives }
+    ensures length { LenGives }
 {}
 
 /// What a function of conditions gives, from what its arguments give.

@@ -48,8 +48,13 @@ pub(crate) fn no_error(asked: Asked) -> Result<Value, Asked>
     ensures value { IfOk result (λ v. IsFalse (is_error v)) }
 {
     match asked {
-        Asked::Val(Value::Error(_)) => Err(asked),
-        Asked::Val(value) => Ok(value),
+        Asked::Val(value) => {
+            if value.is_error() {
+                Err(asked)
+            } else {
+                Ok(value)
+            }
+        }
         Asked::Needs(_) => Err(asked),
     }
 }

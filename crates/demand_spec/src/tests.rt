@@ -1,7 +1,8 @@
 //! Small books and formulas, with what they show and give worked out by hand.
-ghost use Rattle.std.specs.Prelude.{◌≡◌, ◌≤◌, IsTrue};
+ghost use Rattle.std.specs.Prelude.{◌≡◌, ◌≤◌, IfOk, IsTrue};
 ghost use Rattle.cell_values.specs.Addresses.{IsBefore, IsOnSheet};
 ghost use Rattle.cell_values.specs.Texts.{Texts as Bytes, IsTextOf};
+ghost use Rattle.demand_spec.specs.Given.{IsAnswerOf};
 ghost use Rattle.demand_spec.specs.Listed.{content_of, contents, IsSoundAt, IsContentOf, AreCellsOf, IsFormulaOf, AreArgumentsOf};
 ghost use Rattle.cell_values.specs.Order.{IsAfterAll, addresses};
 ghost use Rattle.formula_trees.specs.Expr.{expr_of, exprs_of, Binary, Call, End, More};
@@ -235,7 +236,7 @@ fn formulas_lead_into_a_loop_by_their_first_need(rt: HostRuntime) -> Result<(), 
 
 // A formula without texts. Its parts stand before it: a digit is a number, `a` to `g` are the cells A1 to
 // G1, `h` to `k` are A2, B2, A3 and B3, `#` is `#REF!`, and `:` makes a range of two cells. `-` is the
-// sign. A capital is a function, with a point before it for each of its arguments.
+// sign, `&` joins texts. A capital is a function, with a point before it for each of its arguments.
 fn formula(rt: &impl Abort, alloc: Global, spelling: &[u8]) -> Tree {
     let mut parts: Vec<Tree> = Vec::new(alloc);
     let mut count = 0_u32;
@@ -252,6 +253,7 @@ fn formula(rt: &impl Abort, alloc: Global, spelling: &[u8]) -> Tree {
             b'/' => operator(rt, alloc, Op::Div, &mut parts),
             b'=' => operator(rt, alloc, Op::Eq, &mut parts),
             b'<' => operator(rt, alloc, Op::Lt, &mut parts),
+            b'&' => operator(rt, alloc, Op::Join, &mut parts),
             b'.' => {
                 count = count.saturating_add(1);
                 continue;
@@ -316,6 +318,10 @@ fn function(sign: u8) -> Fun {
         b'X' => Fun::Index,
         b'F' => Fun::Match,
         b'V' => Fun::VLookup,
+        b'P' => Fun::Left,
+        b'T' => Fun::Right,
+        b'D' => Fun::Mid,
+        b'Z' => Fun::Len,
         _ => Fun::HLookup,
     }
 }
@@ -591,5 +597,136 @@ fn formulas_ask_from_left_to_right(rt: HostRuntime) -> Result<(), Fail> {
     let text = texts.intern("x")?;
     let book = sample(&rt, rt.alloc(), &texts, text);
     ask_rows(&rt, rt.alloc(), &book, &texts)?;
+    Ok(())
+}
+
+// Formulas over the sample book with a text in E1, and the text of what they give; `needs` stands for a cell
+// without a value.
+const TEXT_ROWS: &[(&str, &[u8], &str); 45] = &[
+    // E1&1
+    ("ab", b"e1&", "ab1"),
+    // LEFT(E1,2)&LEN(E1)
+    ("héllo", b"e2..Pe.Z&", "hé5"),
+    // E1&9: 49 bytes are too many, and 48 are not
+    (
+        "xxxxxxxxxxxxxxxxxxxxxxxxxxxxxxxxxxxxxxxxxxxxxxxx",
+        b"e9&",
+        "#VALUE!",
+    ),
+    (
+        "xxxxxxxxxxxxxxxxxxxxxxxxxxxxxxxxxxxxxxxxxxxxxxx",
+        b"e9&",
+        "xxxxxxxxxxxxxxxxxxxxxxxxxxxxxxxxxxxxxxxxxxxxxxx9",
+    ),
+    // MID(E1,4,2)=G1: the empty text equals Blank
+    ("abc", b"e42...Dg=", "TRUE"),
+    // E1&B1, G1&G1, -A2&A1
+    ("ab", b"eb&", "abTRUE"),
+    ("ab", b"gg&", ""),
+    ("ab", b"h-a&", "-52"),
+    // C1&D1, D1&C1: what is wrong on the left comes first
+    ("ab", b"cd&", "#REF!"),
+    ("ab", b"dc&", "needs"),
+    // C1&1/0, 1/0&C1, A1&C1
+    ("ab", b"c10/&", "#REF!"),
+    ("ab", b"10/c&", "#DIV/0!"),
+    ("ab", b"ac&", "#REF!"),
+    // LEFT(E1), RIGHT(E1): one character
+    ("héllo", b"e.P", "h"),
+    ("héllo", b"e.T", "o"),
+    // RIGHT(E1,2), LEFT(E1,9), RIGHT(E1,9)
+    ("héllo", b"e2..T", "lo"),
+    ("héllo", b"e9..P", "héllo"),
+    ("héllo", b"e9..T", "héllo"),
+    // LEFT(E1,G1), LEFT(E1,B1), LEFT(E1,-A1), LEFT(E1,E1)
+    ("héllo", b"eg..P", ""),
+    ("héllo", b"eb..P", "#VALUE!"),
+    ("héllo", b"ea-..P", "#VALUE!"),
+    ("héllo", b"ee..P", "#VALUE!"),
+    // MID(E1,2,2), MID(E1,6,2), MID(E1,0,2), MID(E1,G1,2), MID(E1,1,-A1)
+    ("héllo", b"e22...D", "él"),
+    ("héllo", b"e62...D", ""),
+    ("héllo", b"e02...D", "#VALUE!"),
+    ("héllo", b"eg2...D", "#VALUE!"),
+    ("héllo", b"e1a-...D", "#VALUE!"),
+    // MID(E1,B1,D1), LEFT(C1,D1), RIGHT(D1,C1), MID(E1,2,C1): arguments before their kinds, left to right
+    ("ab", b"ebd...D", "needs"),
+    ("ab", b"cd..P", "#REF!"),
+    ("ab", b"dc..T", "needs"),
+    ("ab", b"e2c...D", "#REF!"),
+    // LEN(E1), LEN(B1), LEN(G1), LEN(-A2), LEN(C1), LEN(D1)
+    ("héllo", b"e.Z", "5"),
+    ("ab", b"b.Z", "4"),
+    ("ab", b"g.Z", "0"),
+    ("ab", b"h-.Z", "2"),
+    ("ab", b"c.Z", "#REF!"),
+    ("ab", b"d.Z", "needs"),
+    // IFERROR(E1&9,7)
+    (
+        "xxxxxxxxxxxxxxxxxxxxxxxxxxxxxxxxxxxxxxxxxxxxxxxx",
+        b"e9&7..E",
+        "7",
+    ),
+    // SUM(E1&1), COUNT(E1&1), IF(E1&1,1,2), (E1&1)+1: a text as any other
+    ("1", b"e1&.S", "#VALUE!"),
+    ("1", b"e1&.K", "0"),
+    ("1", b"e1&12...I", "#VALUE!"),
+    ("1", b"e1&1+", "#VALUE!"),
+    // LEFT(E1,9)=E1, MATCH(LEFT(E1,9),E1:F1), E1&1<E1&2: texts compare by their bytes
+    ("ab", b"e9..Pe=", "TRUE"),
+    ("ab", b"e9..Pef:..F", "1"),
+    ("ab", b"e1&e2&<", "TRUE"),
+];
+
+// What a formula gives over a book.
+fn ask_one(alloc: Global, book: &PlainBook, texts: &Texts, tree: &Tree) -> Result<Asked, AllocError>
+    requires cells { AreCellsOf texts.now book.now }
+    requires formula { IsFormulaOf texts.now (expr_of tree.now) }
+    ensures { IfOk result (IsAnswerOf texts.now) }
+{
+    let known = finish(alloc, book, texts)?;
+    let stage = Stage::over(book, texts, &known);
+    Ok(stage.ask(tree, place(9, 9)))
+}
+
+// Whether this is the text of what was asked.
+fn shows(alloc: Global, texts: &Texts, asked: Asked, want: &str) -> Result<bool, AllocError>
+    requires { IsAnswerOf texts.now asked }
+{
+    match asked {
+        Asked::Val(value) => {
+            let text = value.show_text(alloc, texts)?;
+            Ok(text.as_str() == want)
+        }
+        Asked::Needs(_) => Ok(want == "needs"),
+    }
+}
+
+// Whether the formula gives the wanted text, where E1 has this text.
+fn gives(
+    rt: &impl Abort,
+    alloc: Global,
+    text: &str,
+    spelling: &[u8],
+    want: &str,
+) -> Result<bool, AllocError> {
+    let mut texts = Texts::new(alloc);
+    let in_cell = texts.intern(text)?;
+    let book = sample(rt, alloc, &texts, in_cell);
+    let tree = formula(rt, alloc, spelling);
+    assert!(rt; has_no_text(&tree));
+    let asked = ask_one(alloc, &book, &texts, &tree)?;
+    shows(alloc, &texts, asked, want)
+}
+
+#[test]
+fn formulas_compute_texts(rt: HostRuntime) -> Result<(), Fail> {
+    let mut count = 0;
+    for (text, spelling, want) in TEXT_ROWS {
+        let holds = gives(&rt, rt.alloc(), text, spelling, want)?;
+        assert!(rt; holds, "{spelling:?} with {text} gives {want}");
+        count = u32::saturating_add(count, 1);
+    }
+    assert_eq!(rt; count, 45);
     Ok(())
 }

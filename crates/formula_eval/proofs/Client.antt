@@ -1,5 +1,5 @@
 -- Small books of tests.
-use Rattle.std.proofs.Common.{◌≡◌, ◌<◌, ◌⊎◌, Bool, true, false, cond, inl, inr, Option, Some, None, Ok, List, [], ◌∷◌, ◌++◌, length, take, min, refl, ap, subst, arith}
+use Rattle.std.proofs.Common.{◌≡◌, ◌⊎◌, Bool, true, false, cond, inl, inr, Option, Some, None, Ok, List, [], ◌∷◌, ◌++◌, length, take, min, refl, ap, subst, arith}
 use Rattle.std.proofs.lemmas.List.{length-take}
 use Rattle.cell_values.specs.declared.address.Addr.{Addr}
 use Rattle.cell_values.specs.declared.values.Value.{Value}
@@ -11,7 +11,7 @@ use Rattle.cell_values.specs.Values.{IsValueOf}
 use Rattle.formula_trees.specs.Expr.{Expr}
 use Rattle.demand_spec.specs.declared.Asked.TheVariants.{Val}
 use Rattle.demand_spec.specs.Asks.{any_value}
-use Rattle.demand_spec.specs.Book.{Book, Content, look, look_at, formula_at, own}
+use Rattle.demand_spec.specs.Book.{Book, look, look_at, formula_at, own}
 use Rattle.cell_values.specs.Order.{entry_at}
 use Rattle.demand_spec.specs.Listed.{AreKnownOf}
 use Rattle.demand_spec.proofs.Texts.{look_text}

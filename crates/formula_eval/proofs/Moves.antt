@@ -1,11 +1,11 @@
 -- What each step of a node does to the plan, the room and the work that is left.
-use Rattle.std.proofs.Common.{◌≡◌, ℕ, ◌+◌, ◌<◌, ◌≤◌, true, Option, Some, None, List, ◌∷◌, length, refl, sym, ap, ◌∙◌, subst, arith}
+use Rattle.std.proofs.Common.{◌≡◌, ℕ, ◌+◌, ◌<◌, ◌≤◌, Option, Some, None, List, ◌∷◌, length, refl, sym, ap, ◌∙◌, subst, arith}
 use Rattle.cell_values.specs.declared.address.Addr.{Addr}
 use Rattle.cell_values.specs.declared.values.Code.{Code}
 use Rattle.cell_values.specs.declared.values.Value.{Value}
 use Rattle.cell_values.specs.Texts.{Texts}
 use Rattle.formula_trees.specs.Expr.{Expr}
-use Rattle.cell_values.specs.Values.{IsValueOf, is_error}
+use Rattle.cell_values.specs.Values.{IsValueOf}
 use Rattle.demand_spec.specs.Plan.{Plan, Give, Demand, and_then}
 use Rattle.demand_spec.specs.Formula.{fails, plan}
 use Rattle.shared_expressions.specs.declared.nodes.ExprId.{ExprId}
@@ -14,7 +14,8 @@ use Rattle.formula_eval.specs.declared.work.Work.{Work}
 use Rattle.formula_eval.specs.declared.work.Frame.{Frame}
 use Rattle.formula_eval.specs.declared.work.Frame.TheVariants.{At}
 use Rattle.formula_eval.specs.declared.work.Step.{Step}
-use Rattle.formula_eval.specs.Machine.{frame_plan, unwind, plan_or, cost, frame_left, IsMeant, WorkFits, Goes, Waits, Instead, Does}
+use Rattle.formula_eval.specs.Machine.{frame_plan, unwind, plan_or, cost, frame_left, IsMeant, WorkFits, Goes, Waits, WaitsOr, Instead, Does}
+use Rattle.formula_eval.proofs.Values.{error_value}
 use Rattle.formula_eval.proofs.Parts.{holds_child, holds_instead, meant_child, depth_above}
 
 pub and_then_assoc : (p : Plan) (f g : Value → Plan) → and_then (and_then p f) g ≡ and_then p (λ v. and_then (f v) g)
@@ -43,15 +44,8 @@ looks p ts at e q budget fs a h b = record {
   beneath = refl;
 }
 
-error_meant : (ts : Texts) (v : Value) → is_error v ≡ true → IsValueOf ts v
-error_meant ts (Value.Error c) h = tt
-error_meant ts (Value.Number n) h = tt
-error_meant ts (Value.Bool n) h = tt
-error_meant ts Value.Blank h = tt
-error_meant ts (Value.Text n) h = cc
-
 pub does : (p : Trees) (ts : Texts) (at : Addr) (e : Expr) (q r : Plan) (budget : ℕ) (fs : List Frame) (s : Step) → r ≡ q → 1 < budget → Does q s → Goes p ts at e r budget fs s fs
-does p ts at e q r budget fs (Step.Give v) h b d = gives p ts at e r budget fs v (h ∙ d.0) (omega arith) (λ t. error_meant ts v d.1)
+does p ts at e q r budget fs (Step.Give v) h b d = gives p ts at e r budget fs v (h ∙ d.0) (omega arith) (λ t. error_value ts v d.1)
 does p ts at e q r budget fs (Step.Look a) h b d = looks p ts at e r budget fs a (h ∙ d) b
 does p ts at e q r budget fs (Step.Eval c) h b d = absurd d
 
@@ -87,6 +81,23 @@ waited p ts at id q budget w fs k s fs' None child b n h there r =
     subst (λ z. Goes p ts at (tree_at p id) q budget fs z fs') (sym r.0) (subst (λ z. Goes p ts at (tree_at p id) q budget fs (Step.Give (Value.Error Code.Value)) z) (sym r.1) (ends p ts at (tree_at p id) q budget fs Code.Value (there refl) b))
 waited p ts at id q budget w fs k s fs' (Some a) child b n h there r =
     let one : Awaits ts at (tree_at p id) q budget w (tree_at p r.0) = subst (Awaits ts at (tree_at p id) q budget w) (sym r.2) (h a refl) in
+    subst (λ z. Goes p ts at (tree_at p id) q budget fs z fs') (sym r.1) (waits p ts at id q budget w fs r.0 k fs' r.3 (child ∙ ap Some (sym r.2)) n one)
+
+-- a node has a value in place of a child's
+hands : (p : Trees) (ts : Texts) (at : Addr) (id : ExprId) (q : Plan) (budget : ℕ) (w : Work) (fs : List Frame) (u : Value) (fs' : List Frame) → fs' ≡ At id w ∷ fs → (IsMeant ts (tree_at p id) → WorkFits ts at (tree_at p id) w) → IsValueOf ts u → q ≡ frame_plan ts at (tree_at p id) w u → frame_left at (tree_at p id) w < budget → Goes p ts at (tree_at p id) q budget fs (Step.Give u) fs'
+hands p ts at id q budget w fs u fs' e n v h l = subst (λ z. Goes p ts at (tree_at p id) q budget fs (Step.Give u) z) (sym e) (record {
+  same = ap (λ z. and_then z (unwind p ts at fs)) (sym h);
+  less = omega (arith, l);
+  fits = λ limit m t f. record { step = v; frames = (m, t, n t, f) };
+  beneath = refl;
+})
+
+-- from what is known of a child, or of the value in its place
+pub waited_or : (p : Trees) (ts : Texts) (at : Addr) (id : ExprId) (q : Plan) (budget : ℕ) (w : Work) (fs : List Frame) (k : ℕ) (u : Value) (s : Step) (fs' : List Frame) (o : Option Expr) → child_of k (tree_at p id) ≡ o → (IsMeant ts (tree_at p id) → WorkFits ts at (tree_at p id) w) → IsValueOf ts u → q ≡ and_then (plan_or (Give u) ts at o) (λ v. frame_plan ts at (tree_at p id) w v) → ((a : Expr) → o ≡ Some a → cost at a + frame_left at (tree_at p id) w < budget) → frame_left at (tree_at p id) w < budget → WaitsOr p id w u o fs s fs' → Goes p ts at (tree_at p id) q budget fs s fs'
+waited_or p ts at id q budget w fs k u s fs' None child n v h l b r =
+    subst (λ z. Goes p ts at (tree_at p id) q budget fs z fs') (sym r.0) (hands p ts at id q budget w fs u fs' r.1 n v h b)
+waited_or p ts at id q budget w fs k u s fs' (Some a) child n v h l b r =
+    let one : Awaits ts at (tree_at p id) q budget w (tree_at p r.0) = subst (Awaits ts at (tree_at p id) q budget w) (sym r.2) (record { goes_on = h; falls = l a refl }) in
     subst (λ z. Goes p ts at (tree_at p id) q budget fs z fs') (sym r.1) (waits p ts at id q budget w fs r.0 k fs' r.3 (child ∙ ap Some (sym r.2)) n one)
 
 -- a cell is waited for

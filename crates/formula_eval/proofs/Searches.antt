@@ -26,7 +26,8 @@ use Rattle.formula_eval.specs.Machine.{plan_or, place_named, cells_named, index_
 use Rattle.cell_values.proofs.Walking.{length-column, length-first_row}
 use Rattle.formula_eval.proofs.Parts.{plus_one, depth_over, value_at_is, few_children}
 use Rattle.formula_eval.proofs.Moves.{ends, looks, does, AwaitsCell, waits_cell, goes_less}
-use Rattle.formula_eval.proofs.Begins.{no_error, call_gives, goes_with, left_with, child_with, some_left}
+use Rattle.formula_eval.proofs.Values.{no_error}
+use Rattle.formula_eval.proofs.Begins.{call_gives, goes_with, left_with, child_with, some_left}
 use Rattle.formula_eval.proofs.Ranges.{drop_some, nothing, cells_are, few_cells, fun_is}
 
 -- MATCH
@@ -292,12 +293,13 @@ line_few f r a = (let l : length (column_of r 0) ≡ height r = length-column r 
 pub lookup_few : (at : Addr) (e : Expr) (f : Fun) (r : Area) (m n : ℕ) → root_of e ≡ Node.Call f → IsArea r → Cells r ≡ place_named at (child_of 1 e) → HasLine (fun_of e) m n (range_of at e) → n < 65536
 lookup_few at e f r m n c a h l = (let fits : HasLine (fun_of e) m n (Cells r) = subst (HasLine (fun_of e) m n) (range_is at e f r c h) l in omega (arith, fits.1, line_few (fun_of e) r a))
 
-pub first_is_two : (ts : Texts) (at : Addr) (f : Fun) (v : Value) → (f ≡ Fun.If → ⊥) → (f ≡ Fun.Not → ⊥) → (f ≡ Fun.Choose → ⊥) → (f ≡ Fun.IfError → ⊥) → (f ≡ Fun.IsError → ⊥) → (f ≡ Fun.Abs → ⊥) → (f ≡ Fun.Match → ⊥) → (args : Exprs) → call_first ts at f args v ≡ first_of_two ts at f args v
-first_is_two ts at Fun.If v a b c d e g h args = absurd (a refl)
-first_is_two ts at Fun.Not v a b c d e g h args = absurd (b refl)
-first_is_two ts at Fun.Choose v a b c d e g h args = absurd (c refl)
-first_is_two ts at Fun.IfError v a b c d e g h args = absurd (d refl)
-first_is_two ts at Fun.IsError v a b c d e g h args = absurd (e refl)
-first_is_two ts at Fun.Abs v a b c d e g h args = absurd (g refl)
-first_is_two ts at Fun.Match v a b c d e g h args = absurd (h refl)
-first_is_two ts at f v a b c d e g h args = refl
+pub first_is_two : (ts : Texts) (at : Addr) (f : Fun) (v : Value) → (f ≡ Fun.If → ⊥) → (f ≡ Fun.Not → ⊥) → (f ≡ Fun.Choose → ⊥) → (f ≡ Fun.IfError → ⊥) → (f ≡ Fun.IsError → ⊥) → (f ≡ Fun.Abs → ⊥) → (f ≡ Fun.Match → ⊥) → (f ≡ Fun.Len → ⊥) → (args : Exprs) → call_first ts at f args v ≡ first_of_two ts at f args v
+first_is_two ts at Fun.If v a b c d e g h l args = absurd (a refl)
+first_is_two ts at Fun.Not v a b c d e g h l args = absurd (b refl)
+first_is_two ts at Fun.Choose v a b c d e g h l args = absurd (c refl)
+first_is_two ts at Fun.IfError v a b c d e g h l args = absurd (d refl)
+first_is_two ts at Fun.IsError v a b c d e g h l args = absurd (e refl)
+first_is_two ts at Fun.Abs v a b c d e g h l args = absurd (g refl)
+first_is_two ts at Fun.Match v a b c d e g h l args = absurd (h refl)
+first_is_two ts at Fun.Len v a b c d e g h l args = absurd (l refl)
+first_is_two ts at f v a b c d e g h l args = refl

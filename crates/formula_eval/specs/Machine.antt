@@ -1,5 +1,5 @@
 -- What frames leave of a formula's plan.
-use Rattle.std.specs.Prelude.{◌≡◌, ℕ, zero, suc, ◌+◌, ◌-◌, ◌*◌, ◌<◌, ◌≤◌, ℤ, pos, negsuc, nat_lt, Bool, true, false, not, cond, Option, Some, None, List, [], ◌∷◌, length, drop}
+use Rattle.std.specs.Prelude.{◌≡◌, ℕ, zero, suc, ◌+◌, ◌-◌, ◌*◌, ◌<◌, ◌≤◌, ℤ, pos, negsuc, nat_lt, Bool, true, false, not, cond, if◌then◌else◌, Option, Some, None, List, [], ◌∷◌, length, drop}
 use Rattle.cell_values.specs.declared.address.Addr.{Addr}
 use Rattle.cell_values.specs.declared.address.Area.{Area}
 use Rattle.cell_values.specs.declared.values.Code.{Code}
@@ -19,13 +19,14 @@ use Rattle.builtin_functions.specs.declared.folds.FoldKind.{FoldKind}
 use Rattle.cell_values.specs.Values.{IsValueOf, is_error, as_number}
 use Rattle.builtin_functions.specs.Tables.{condition, table, sign_table}
 use Rattle.builtin_functions.specs.Folds.{Total, taken}
+use Rattle.computed_text.specs.Computed.{left_of, right_of, mid_of, length_of}
 use Rattle.demand_spec.specs.Plan.{Plan, Give, Demand, and_then}
 use Rattle.demand_spec.specs.Formula.{fails, unless_error, or_fail, if_number, if_cells, if_up_to, and_plan, or_plan, from_one, chosen, go_on, fold_cells, fold_plan, is_found, search_plan, operator_value, sign_value, plan, arguments}
 use Rattle.formula_trees.specs.TextNumbers.{TextsBelow}
 use Rattle.shared_expressions.specs.declared.nodes.ExprId.{ExprId}
 use Rattle.shared_expressions.specs.Trees.{Trees, tree_at, nth, depth}
 use Rattle.formula_eval.specs.declared.work.Work.{Work}
-use Rattle.formula_eval.specs.declared.work.Work.TheVariants.{First, Second, Turn, Argument, Cell, Search, Lookup}
+use Rattle.formula_eval.specs.declared.work.Work.TheVariants.{First, Second, Third, Turn, Argument, Cell, Search, Lookup}
 use Rattle.formula_eval.specs.declared.work.Frame.{Frame}
 use Rattle.formula_eval.specs.declared.work.Frame.TheVariants.{At, Opened}
 use Rattle.formula_eval.specs.declared.work.Step.{Step}
@@ -53,6 +54,9 @@ first_number _ = 0
 abbrev pub second_number : Fun → ℕ
 second_number Fun.Mod = 1
 second_number Fun.Quotient = 1
+second_number Fun.Left = 1
+second_number Fun.Right = 1
+second_number Fun.Mid = 1
 second_number Fun.If = 2
 second_number Fun.And = 2
 second_number Fun.Or = 2
@@ -69,6 +73,41 @@ second_number Fun.Index = 2
 second_number Fun.Match = 2
 second_number Fun.VLookup = 2
 second_number Fun.HLookup = 2
+second_number Fun.Len = 2
+
+-- the second value where no argument gives one: LEFT and RIGHT take one character
+abbrev pub second_default : Fun → Value
+second_default Fun.Left = Value.Number (pos 1)
+second_default Fun.Right = Value.Number (pos 1)
+second_default Fun.Mid = Value.Error Code.Value
+second_default Fun.Len = Value.Error Code.Value
+second_default Fun.Mod = Value.Error Code.Value
+second_default Fun.Quotient = Value.Error Code.Value
+second_default Fun.If = Value.Error Code.Value
+second_default Fun.And = Value.Error Code.Value
+second_default Fun.Or = Value.Error Code.Value
+second_default Fun.Not = Value.Error Code.Value
+second_default Fun.Choose = Value.Error Code.Value
+second_default Fun.IfError = Value.Error Code.Value
+second_default Fun.IsError = Value.Error Code.Value
+second_default Fun.Sum = Value.Error Code.Value
+second_default Fun.Min = Value.Error Code.Value
+second_default Fun.Max = Value.Error Code.Value
+second_default Fun.Count = Value.Error Code.Value
+second_default Fun.Abs = Value.Error Code.Value
+second_default Fun.Index = Value.Error Code.Value
+second_default Fun.Match = Value.Error Code.Value
+second_default Fun.VLookup = Value.Error Code.Value
+second_default Fun.HLookup = Value.Error Code.Value
+
+-- the number of a start, 0 where it is none: MID has no start there either
+abbrev pub start_number : Option ℤ → ℤ
+start_number (Some n) = n
+start_number None = pos 0
+
+-- an error, or what a function gives at the value
+abbrev pub error_or : (Value → Value) → Value → Value
+error_or f v = if is_error v then v else f v
 
 -- a number from 1 to `most`, counted from 0
 abbrev pub index_below : ℕ → ℤ → Option ℕ
@@ -146,17 +185,39 @@ fold_from ts at q k t args = fold_plan q t (drop k (arguments ts at args))
 abbrev pub fold_at : Texts → Addr → FoldKind → ℕ → ℕ → Total → Exprs → Plan
 fold_at ts at q k n t args = fold_cells q t (drop n (cells_named at (nth k args))) (λ w. fold_from ts at q (k + 1) w args)
 
+-- with two values of which none is an error
+abbrev pub call_third : Texts → Fun → Value → ℤ → Value → Plan
+call_third ts Fun.Mid x k v = unless_error v (λ z. Give (mid_of ts x (Value.Number k) z))
+call_third ts f x k v = fails Code.Value
+
+-- with a first value that is no error
 abbrev pub call_second : Texts → Addr → Fun → Exprs → Value → Value → Plan
 call_second ts at Fun.Mod args x v = unless_error v (λ y. Give (table ts Op2.Mod x y))
 call_second ts at Fun.Quotient args x v = unless_error v (λ y. Give (table ts Op2.Quotient x y))
 call_second ts at Fun.Index args x v = unless_error v (λ w. index_in x w (place_named at (nth 0 args)))
 call_second ts at Fun.VLookup args x v = unless_error v (λ w. lookup_in ts Fun.VLookup x w (place_named at (nth 1 args)))
 call_second ts at Fun.HLookup args x v = unless_error v (λ w. lookup_in ts Fun.HLookup x w (place_named at (nth 1 args)))
-call_second ts at f args x v = fails Code.Value
+call_second ts at Fun.Left args x v = unless_error v (λ y. Give (left_of ts x y))
+call_second ts at Fun.Right args x v = unless_error v (λ y. Give (right_of ts x y))
+call_second ts at Fun.Mid args x v = unless_error v (λ y. and_then (plan_or (fails Code.Value) ts at (nth 2 args)) (call_third ts Fun.Mid x (start_number (as_number y))))
+call_second ts at Fun.Len args x v = fails Code.Value
+call_second ts at Fun.If args x v = fails Code.Value
+call_second ts at Fun.And args x v = fails Code.Value
+call_second ts at Fun.Or args x v = fails Code.Value
+call_second ts at Fun.Not args x v = fails Code.Value
+call_second ts at Fun.Choose args x v = fails Code.Value
+call_second ts at Fun.IfError args x v = fails Code.Value
+call_second ts at Fun.IsError args x v = fails Code.Value
+call_second ts at Fun.Sum args x v = fails Code.Value
+call_second ts at Fun.Min args x v = fails Code.Value
+call_second ts at Fun.Max args x v = fails Code.Value
+call_second ts at Fun.Count args x v = fails Code.Value
+call_second ts at Fun.Abs args x v = fails Code.Value
+call_second ts at Fun.Match args x v = fails Code.Value
 
--- with a first value that is no error
+-- a call of two values or three has its first
 abbrev pub first_of_two : Texts → Addr → Fun → Exprs → Value → Plan
-first_of_two ts at f args v = unless_error v (λ u. and_then (plan_or (fails Code.Value) ts at (nth (second_number f) args)) (call_second ts at f args u))
+first_of_two ts at f args v = unless_error v (λ u. and_then (plan_or (Give (second_default f)) ts at (nth (second_number f) args)) (call_second ts at f args u))
 
 abbrev pub call_first : Texts → Addr → Fun → Exprs → Value → Plan
 call_first ts at Fun.If args v = or_fail (condition v) (λ b. cond b (plan_or (fails Code.Value) ts at (nth 1 args)) (plan_or (Give (Value.Bool false)) ts at (nth 2 args)))
@@ -166,7 +227,21 @@ call_first ts at Fun.IfError args v = cond (is_error v) (plan_or (fails Code.Val
 call_first ts at Fun.IsError args v = Give (Value.Bool (is_error v))
 call_first ts at Fun.Abs args v = unless_error v (λ x. Give (sign_table Sign2.Abs x))
 call_first ts at Fun.Match args v = unless_error v (λ k. match_in ts k (place_named at (nth 1 args)))
-call_first ts at f args v = first_of_two ts at f args v
+call_first ts at Fun.Len args v = unless_error v (λ x. Give (length_of ts x))
+call_first ts at Fun.Mod args v = first_of_two ts at Fun.Mod args v
+call_first ts at Fun.Quotient args v = first_of_two ts at Fun.Quotient args v
+call_first ts at Fun.Index args v = first_of_two ts at Fun.Index args v
+call_first ts at Fun.VLookup args v = first_of_two ts at Fun.VLookup args v
+call_first ts at Fun.HLookup args v = first_of_two ts at Fun.HLookup args v
+call_first ts at Fun.Left args v = first_of_two ts at Fun.Left args v
+call_first ts at Fun.Right args v = first_of_two ts at Fun.Right args v
+call_first ts at Fun.Mid args v = first_of_two ts at Fun.Mid args v
+call_first ts at Fun.And args v = first_of_two ts at Fun.And args v
+call_first ts at Fun.Or args v = first_of_two ts at Fun.Or args v
+call_first ts at Fun.Sum args v = first_of_two ts at Fun.Sum args v
+call_first ts at Fun.Min args v = first_of_two ts at Fun.Min args v
+call_first ts at Fun.Max args v = first_of_two ts at Fun.Max args v
+call_first ts at Fun.Count args v = first_of_two ts at Fun.Count args v
 
 abbrev pub turn_frame : Texts → Addr → Option Bool → ℕ → Exprs → Value → Plan
 turn_frame ts at (Some q) k args v = or_fail (condition v) (λ b. turn_on q b (turn_plan q ts at k args))
@@ -196,6 +271,7 @@ lookup_frame false p = fails Code.Value
 abbrev pub call_frame : Texts → Addr → Fun → Exprs → Work → Value → Plan
 call_frame ts at f args First v = call_first ts at f args v
 call_frame ts at f args (Second x) v = call_second ts at f args x v
+call_frame ts at f args (Third x k) v = call_third ts f x k v
 call_frame ts at f args (Turn k) v = turn_frame ts at (turn_of f) k args v
 call_frame ts at f args (Argument k t) v = argument_frame ts at (fold_of f) k t args v
 call_frame ts at f args (Cell k n t) v = cell_frame ts at (fold_of f) k n t args v
@@ -259,9 +335,15 @@ abbrev pub line_left : Fun → Place → ℕ → ℕ
 line_left f (Cells r) n = 2 * (length (line_of f r) - suc n)
 line_left f p n = 0
 
+-- with a first value: MID's third argument, or the cells of a range
+abbrev pub second_left : Addr → Fun → Exprs → ℕ
+second_left at Fun.Mid args = 2 + costs_from at 2 args
+second_left at f args = 2 + 2 * span (place_named at (nth (range_number f) args))
+
 abbrev pub call_left : Addr → Fun → Exprs → Work → ℕ
-call_left at f args First = 1 + costs_but at (first_number f) args
-call_left at f args (Second x) = 2 + 2 * span (place_named at (nth (range_number f) args))
+call_left at f args First = 3 + costs_but at (first_number f) args
+call_left at f args (Second x) = second_left at f args
+call_left at f args (Third x k) = 1
 call_left at f args (Turn k) = 1 + costs_from at k args
 call_left at f args (Argument k t) = 1 + costs_from at k args
 call_left at f args (Cell k n t) = 1 + (2 * (length (cells_named at (nth k args)) - n) + costs_from at (k + 1) args)
@@ -315,7 +397,22 @@ IsCall Fun.VLookup (More k (More r (More c rest))) = Unit {0}
 IsCall Fun.VLookup _ = ⊥
 IsCall Fun.HLookup (More k (More r (More c rest))) = Unit {0}
 IsCall Fun.HLookup _ = ⊥
-IsCall _ args = Unit {0}
+IsCall Fun.Left (More t End) = Unit {0}
+IsCall Fun.Left (More t (More n End)) = Unit {0}
+IsCall Fun.Left _ = ⊥
+IsCall Fun.Right (More t End) = Unit {0}
+IsCall Fun.Right (More t (More n End)) = Unit {0}
+IsCall Fun.Right _ = ⊥
+IsCall Fun.Mid (More t (More s (More n End))) = Unit {0}
+IsCall Fun.Mid _ = ⊥
+IsCall Fun.Len (More t End) = Unit {0}
+IsCall Fun.Len _ = ⊥
+IsCall Fun.And args = Unit {0}
+IsCall Fun.Or args = Unit {0}
+IsCall Fun.Sum args = Unit {0}
+IsCall Fun.Min args = Unit {0}
+IsCall Fun.Max args = Unit {0}
+IsCall Fun.Count args = Unit {0}
 
 abbrev mutual
   pub IsCovered : Expr → Type 0
@@ -358,6 +455,7 @@ fun_of e = Fun.If
 -- what a node has so far fits it
 abbrev pub WorkFits : Texts → Addr → Expr → Work → Type 0
 WorkFits ts at e (Second x) = IsOperand ts x
+WorkFits ts at e (Third x k) = IsOperand ts x
 WorkFits ts at e (Search n k) = IsOperand ts k
 WorkFits ts at e (Lookup m n k) = IsOperand ts k × HasLine (fun_of e) m n (range_of at e)
 WorkFits ts at e w = Unit {0}
@@ -419,6 +517,11 @@ LookupGoesOn p ts at id f r k m n fs s fs' = Goes p ts at (tree_at p id) (lookup
 abbrev pub Waits : Trees → ExprId → Work → Option Expr → List Frame → Step → List Frame → Type 0
 Waits p id w None fs s fs' = (s ≡ Step.Give (Value.Error Code.Value)) × (fs' ≡ fs)
 Waits p id w (Some a) fs s fs' = (c : ExprId) × (s ≡ Step.Eval c) × (tree_at p c ≡ a) × (fs' ≡ At id w ∷ fs)
+
+-- a child is waited for; where there is none, the node has this value in its place
+abbrev pub WaitsOr : Trees → ExprId → Work → Value → Option Expr → List Frame → Step → List Frame → Type 0
+WaitsOr p id w v None fs s fs' = (s ≡ Step.Give v) × (fs' ≡ At id w ∷ fs)
+WaitsOr p id w v (Some a) fs s fs' = (c : ExprId) × (s ≡ Step.Eval c) × (tree_at p c ≡ a) × (fs' ≡ At id w ∷ fs)
 
 abbrev pub Instead : Trees → Option Expr → Value → Step → Type 0
 Instead p None v s = s ≡ Step.Give v

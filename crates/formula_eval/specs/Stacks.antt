@@ -1,6 +1,6 @@
 -- Stacks of frames as open evaluations.
 use Rattle.std.specs.Prelude.{ℕ, List, [], ◌∷◌}
-use Rattle.formula_eval.specs.declared.work.Work.TheVariants.{First, Second, Turn, Argument, Cell, Search, Lookup}
+use Rattle.formula_eval.specs.declared.work.Work.TheVariants.{First, Second, Third, Turn, Argument, Cell, Search, Lookup}
 use Rattle.formula_eval.specs.declared.work.Frame.{Frame}
 use Rattle.formula_eval.specs.declared.work.Frame.TheVariants.{At, Opened}
 use Rattle.formula_eval.specs.declared.frames.Kept.{Kept}
@@ -14,6 +14,7 @@ pub record Stack : Type 0 where
 abbrev pub frame_of : Kept → Frame
 frame_of (Kept.First id) = At id First
 frame_of (Kept.Second id x) = At id (Second x)
+frame_of (Kept.Third id k x) = At id (Third x k)
 frame_of (Kept.Turn k id) = At id (Turn k)
 frame_of (Kept.Argument k id t) = At id (Argument k t)
 frame_of (Kept.Cell k n id t) = At id (Cell k n t)

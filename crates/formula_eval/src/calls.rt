@@ -1,13 +1,14 @@
 //! Calls, one value at a time.
 ghost use Rattle.std.specs.Prelude.{◌≡◌, ◌<◌, IfSome, Some, length, true};
 ghost use Rattle.cell_values.specs.Areas.{IsArea};
-ghost use Rattle.cell_values.specs.Values.{IsValueOf};
+ghost use Rattle.cell_values.specs.Values.{IsValueOf, as_number};
 ghost use Rattle.builtin_functions.specs.Folds.{taken};
 ghost use Rattle.demand_spec.specs.Formula.{is_found};
 ghost use Rattle.shared_expressions.specs.Trees.{root_of, tree_at, child_of};
 ghost use Rattle.formula_trees.specs.declared.place.Place.TheVariants.{Cells};
 ghost use Rattle.formula_trees.specs.Mentions.{HasArea};
-ghost use Rattle.formula_eval.specs.Machine.{first_number, second_number, turn_of, fold_of, place_named, is_lookup, fun_of, index_below, across, Holds, IsOperand, range_of, Starts, TurnGoesOn, FoldGoesOn, CellsGoOn, SearchGoesOn, LookupGoesOn, Waits, Instead};
+ghost use Rattle.formula_eval.specs.declared.work.Work.TheVariants.{Third};
+ghost use Rattle.formula_eval.specs.Machine.{first_number, second_number, turn_of, fold_of, place_named, is_lookup, fun_of, index_below, across, second_default, start_number, Holds, IsOperand, range_of, Starts, TurnGoesOn, FoldGoesOn, CellsGoOn, SearchGoesOn, LookupGoesOn, Waits, WaitsOr, Instead};
 
 use crate::cells::{first_cell, line_cell};
 use crate::frames::Frames;
@@ -29,12 +30,12 @@ fn first_number(fun: Fun) -> u32
     }
 }
 
-/// Which argument a call of two numbers, a place or a lookup demands second.
+/// Which argument a call of several values demands second.
 pub fn second_number(fun: Fun) -> u32
     ensures { result ≡ second_number fun }
 {
     match fun {
-        Fun::Mod | Fun::Quotient => 1,
+        Fun::Mod | Fun::Quotient | Fun::Left | Fun::Right | Fun::Mid => 1,
         Fun::If
         | Fun::And
         | Fun::Or
@@ -50,7 +51,47 @@ pub fn second_number(fun: Fun) -> u32
         | Fun::Index
         | Fun::Match
         | Fun::VLookup
-        | Fun::HLookup => 2,
+        | Fun::HLookup
+        | Fun::Len => 2,
+    }
+}
+
+/// The second value of a call where no argument gives one: LEFT and RIGHT take one character.
+pub fn second_default(fun: Fun) -> Value
+    ensures { result ≡ second_default fun }
+{
+    match fun {
+        Fun::Left | Fun::Right => Value::Number(1),
+        Fun::Mid
+        | Fun::Len
+        | Fun::Mod
+        | Fun::Quotient
+        | Fun::If
+        | Fun::And
+        | Fun::Or
+        | Fun::Not
+        | Fun::Choose
+        | Fun::IfError
+        | Fun::IsError
+        | Fun::Sum
+        | Fun::Min
+        | Fun::Max
+        | Fun::Count
+        | Fun::Abs
+        | Fun::Index
+        | Fun::Match
+        | Fun::VLookup
+        | Fun::HLookup => Value::Error(Code::Value),
+    }
+}
+
+/// What MID waits for with its text and its start: of the start only the number counts.
+pub fn third_work(text: Value, start: Value) -> Work
+    ensures { result ≡ Third text (start_number (as_number start)) }
+{
+    match start.as_number() {
+        Some(n) => Work::Third(text, n),
+        None => Work::Third(text, 0),
     }
 }
 
@@ -124,7 +165,9 @@ pub fn is_found(key: Value, v: Value, texts: &Texts) -> bool
 {
     match v {
         Value::Error(_) | Value::Blank => false,
-        _ => same(v, key, texts),
+        Value::Number(_) | Value::Text(_) | Value::Short(_) | Value::Bool(_) => {
+            same(v, key, texts)
+        }
     }
 }
 
@@ -141,6 +184,19 @@ impl<'a> Site<'a> {
                 Step::Eval(child)
             }
             None => Step::Give(Value::Error(Code::Value)),
+        }
+    }
+
+    /// A child is evaluated while its parent waits. Where there is none, the parent has this value in its place.
+    pub fn wait_or(&self, frames: &mut Frames, id: ExprId, k: u32, work: Work, other: Value) -> Step
+        requires { length frames.old.frames < frames.old.room }
+        ensures waits { WaitsOr self.now.pool.now id work other (child_of k (tree_at self.now.pool.now id)) frames.old.frames result frames.new.frames }
+        ensures room { frames.new.room ≡ frames.old.room }
+    {
+        frames.push(Frame::At(id, work));
+        match self.pool.child(id, k) {
+            Some(child) => Step::Eval(child),
+            None => Step::Give(other),
         }
     }
 

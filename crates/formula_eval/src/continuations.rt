@@ -1,14 +1,19 @@
 //! What calls do with the values that they wait for.
-ghost use Rattle.std.specs.Prelude.{◌≡◌, ◌<◌, ◌+◌, Some, length, true};
+ghost use Rattle.std.specs.Prelude.{◌≡◌, ◌<◌, ◌+◌, Some, List, length, true};
 ghost use Rattle.cell_values.specs.Values.{IsValueOf};
 ghost use Rattle.shared_expressions.specs.Trees.{root_of, tree_at, child_of};
-ghost use Rattle.formula_eval.specs.declared.work.Work.TheVariants.{First, Second, Turn, Argument, Cell, Search, Lookup};
+ghost use Rattle.formula_eval.specs.declared.work.Frame.{Frame};
+ghost use Rattle.formula_eval.specs.declared.work.Work.TheVariants.{First, Second, Third, Turn, Argument, Cell, Search, Lookup};
 ghost use Rattle.formula_eval.specs.Machine.{place_named, index_in, is_lookup, fun_of, range_of, HasLine, Holds, IsOperand, WorkFits, GoesOn, Does};
 
-use crate::calls::{fold_of, index_below, is_found, is_lookup, second_number, take, turn_of};
+use crate::calls::{
+    fold_of, index_below, is_found, is_lookup, second_default, second_number, take, third_work,
+    turn_of,
+};
 use crate::cells::{across, target};
 use crate::frames::Frames;
 use crate::site::{Call, Site};
+use crate::text_values::{left_or_error, length_or_error, mid_or_error, right_or_error};
 use crate::work::{Step, Work};
 use builtin_functions::operators::{binary, condition, unary};
 use builtin_functions::{Op2, Sign2};
@@ -32,6 +37,7 @@ impl<'a> Site<'a> {
         match work {
             Work::First => self.first_on(frames, call, v),
             Work::Second(x) => self.second_on(frames, call, x, v),
+            Work::Third(x, start) => self.third_on(call, x, start, v),
             Work::Turn(k) => self.take_turn(frames, call, k, v),
             Work::Argument(k, total) => self.take_argument(frames, call, k, total, v),
             Work::Cell(k, n, total) => self.take_cell(frames, call, k, n, total, v),
@@ -65,13 +71,20 @@ impl<'a> Site<'a> {
             },
             Fun::IsError => Step::Give(Value::Bool(v.is_error())),
             Fun::Abs => Step::Give(unary(Sign2::Abs, v)),
+            Fun::Len => Step::Give(length_or_error(v, self.texts)),
             Fun::Match => match v.is_error() {
                 true => Step::Give(v),
                 false => self.match_on(frames, call, v),
             },
             _ => match v.is_error() {
                 true => Step::Give(v),
-                false => self.wait_for(frames, call.id, second_number(call.fun), Work::Second(v)),
+                false => self.wait_or(
+                    frames,
+                    call.id,
+                    second_number(call.fun),
+                    Work::Second(v),
+                    second_default(call.fun),
+                ),
             },
         }
     }
@@ -124,6 +137,9 @@ impl<'a> Site<'a> {
         match call.fun {
             Fun::Mod => Step::Give(binary(Op2::Mod, x, v, self.texts)),
             Fun::Quotient => Step::Give(binary(Op2::Quotient, x, v, self.texts)),
+            Fun::Left => Step::Give(left_or_error(x, v, self.texts)),
+            Fun::Right => Step::Give(right_or_error(x, v, self.texts)),
+            Fun::Mid => self.start_on(frames, call, x, v),
             Fun::Index => match v.is_error() {
                 true => Step::Give(v),
                 false => self.index_on(call.id, x, v),
@@ -132,6 +148,41 @@ impl<'a> Site<'a> {
                 true => Step::Give(v),
                 false => self.line_on(frames, call, x, v),
             },
+            _ => Step::Give(Value::Error(Code::Value)),
+        }
+    }
+
+    /// MID has its text and its start.
+    fn start_on(&self, frames: &mut Frames, call: Call, x: Value, v: Value) -> Step
+        requires holds { Holds frames.old.room (length frames.old.frames) (tree_at self.now.pool.now call.id) }
+        requires call { root_of (tree_at self.now.pool.now call.id) ≡ Node.Call call.fun }
+        requires mid { call.fun ≡ Fun.Mid }
+        requires first { IsOperand self.now.texts.now x }
+        requires value { IsValueOf self.now.texts.now v }
+        ensures goes { GoesOn self.now.pool.now self.now.texts.now self.now.at call.id (Second x) v frames.old.frames result frames.new.frames }
+        ensures room { frames.new.room ≡ frames.old.room }
+    {
+        match v.is_error() {
+            true => Step::Give(v),
+            false => self.wait_or(
+                frames,
+                call.id,
+                2,
+                third_work(x, v),
+                Value::Error(Code::Value),
+            ),
+        }
+    }
+
+    /// A call has the third value that it demands.
+    fn third_on(&self, call: Call, x: Value, start: Int, v: Value) -> Step
+        requires call { root_of (tree_at self.now.pool.now call.id) ≡ Node.Call call.fun }
+        requires first { IsOperand self.now.texts.now x }
+        requires value { IsValueOf self.now.texts.now v }
+        ensures { (frames : List Frame) → GoesOn self.now.pool.now self.now.texts.now self.now.at call.id (Third x start) v frames result frames }
+    {
+        match call.fun {
+            Fun::Mid => Step::Give(mid_or_error(x, start, v, self.texts)),
             _ => Step::Give(Value::Error(Code::Value)),
         }
     }

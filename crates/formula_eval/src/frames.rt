@@ -14,6 +14,7 @@ use std::marker::Model;
 pub enum Kept {
     First(ExprId),
     Second(ExprId, Value),
+    Third(ExprId, Int, Value),
     Turn(u16, ExprId),
     Argument(u16, ExprId, Option<Int>),
     Cell(u16, u32, ExprId, Option<Int>),
@@ -22,8 +23,8 @@ pub enum Kept {
     Opened(Addr, Addr),
 }
 
-// A level of a formula takes 48 bytes.
-const _: () = prove!(size_of::<Kept>() == 48);
+// A level of a formula takes 96 bytes.
+const _: () = prove!(size_of::<Kept>() == 96);
 
 /// The frames of the evaluations that are open, in one room.
 #[derive(Drop)]
@@ -101,6 +102,7 @@ fn keep(frame: Frame) -> Kept
     match frame {
         Frame::At(id, Work::First) => Kept::First(id),
         Frame::At(id, Work::Second(x)) => Kept::Second(id, x),
+        Frame::At(id, Work::Third(x, start)) => Kept::Third(id, start, x),
         Frame::At(id, Work::Turn(k)) => Kept::Turn(k, id),
         Frame::At(id, Work::Argument(k, total)) => Kept::Argument(k, id, total),
         Frame::At(id, Work::Cell(k, n, total)) => Kept::Cell(k, n, id, total),
@@ -117,6 +119,7 @@ fn frame(kept: Kept) -> Frame
     match kept {
         Kept::First(id) => Frame::At(id, Work::First),
         Kept::Second(id, x) => Frame::At(id, Work::Second(x)),
+        Kept::Third(id, start, x) => Frame::At(id, Work::Third(x, start)),
         Kept::Turn(k, id) => Frame::At(id, Work::Turn(k)),
         Kept::Argument(k, id, total) => Frame::At(id, Work::Argument(k, total)),
         Kept::Cell(k, n, id, total) => Frame::At(id, Work::Cell(k, n, total)),

@@ -11,6 +11,7 @@ mod machine;
 mod site;
 #[cfg(test)]
 mod tests;
+mod text_values;
 pub mod work;
 
 pub use demand_spec::Asked;

@@ -14,7 +14,7 @@ ghost use Rattle.formula_eval.specs.Evaluations.{found_as, MeansValue};
 ghost use Rattle.formula_eval.specs.Client.{book_of, look_on, Goes};
 
 use crate::{Asked, Frames, Known, Look, ask, begin, resume};
-use cell_values::{Addr, Code, SheetNames, TextId, Texts, Value};
+use cell_values::{Addr, Code, SheetNames, ShortText, TextId, Texts, Value};
 use demand_spec::Cell;
 use formula_grammar::read_formula;
 use formula_trees::Tree;
@@ -173,7 +173,7 @@ const HERE: Addr = Addr {
     col: 1,
 };
 
-/// What the formula cells A1 to F1 and A2 to E2 show.
+/// What the formula cells A1 to F1, H1 and A2 to E2 show.
 fn value_of(rt: &impl Abort, at: Addr, text: TextId) -> Value
     ensures { (ts : Bytes) → IsTextOf ts text → IsValueOf ts result }
 {
@@ -184,6 +184,7 @@ fn value_of(rt: &impl Abort, at: Addr, text: TextId) -> Value
         (1, 4) => Value::Bool(false),
         (1, 5) => Value::Text(text),
         (1, 6) => Value::Number(3),
+        (1, 8) => short_value(rt, "héllo"),
         (2, 1) => Value::Number(5),
         (2, 2) => Value::Number(9),
         (2, 3) => Value::Number(1),
@@ -193,7 +194,17 @@ fn value_of(rt: &impl Abort, at: Addr, text: TextId) -> Value
     }
 }
 
-/// A book whose cells A1 to F1 and A2 to E2 have formulas of which nothing is told. F2 holds the number 7.
+/// A text in a value itself.
+fn short_value(rt: &impl Abort, text: &str) -> Value
+    ensures { (ts : Bytes) → IsValueOf ts result }
+{
+    match ShortText::of(text.as_bytes()) {
+        Some(text) => Value::Short(text),
+        None => panic!(rt; "{text} is too long"),
+    }
+}
+
+/// A book whose cells A1 to F1, H1 and A2 to E2 have formulas of which nothing is told. F2 holds the number 7.
 fn untold_sheet<'a>(rt: &impl Abort, alloc: Global, texts: &'a Texts) -> Sheet<'a>
     ensures { result.texts ≡ texts.now }
 {
@@ -212,6 +223,12 @@ fn untold_sheet<'a>(rt: &impl Abort, alloc: Global, texts: &'a Texts) -> Sheet<'
         col: 6,
     };
     sheet.put(rt, at, Cell::Number(7));
+    let at = Addr {
+        sheet: 0,
+        row: 1,
+        col: 8,
+    };
+    sheet.put(rt, at, Cell::Formula(Tree::Number(0)));
     sheet
 }
 
@@ -330,7 +347,13 @@ fn show_value(
             assert!(rt; t == text);
             Value::Text(text).show_text(alloc, texts)
         }
-        _ => value.show_text(alloc, texts),
+        Value::Short(t) => match ShortText::from_padded(u64::from(t.len()), t.padded()) {
+            Some(t) => Value::Short(t).show_text(alloc, texts),
+            None => panic!(rt; "{t:?} is no text"),
+        },
+        Value::Number(_) | Value::Bool(_) | Value::Blank | Value::Error(_) => {
+            value.show_text(alloc, texts)
+        }
     }
 }
 
@@ -387,8 +410,8 @@ fn try_formula(
     Ok(())
 }
 
-/// Formulas over A1 2, B1 TRUE, C1 `#REF!`, D1 FALSE, E1 x, F1 3, A2 5, B2 9, C2 1, D2 -1, E2 4 and F2 7, which
-/// is no formula; with the cells that they need in turn, and their values.
+/// Formulas over A1 2, B1 TRUE, C1 `#REF!`, D1 FALSE, E1 x, F1 3, H1 the computed text héllo, A2 5, B2 9, C2 1,
+/// D2 -1, E2 4 and F2 7, which is no formula; with the cells that they need in turn, and their values.
 const FORMULAS: &str = "
     =-A1 needs A1 gives -2
     =+A1 needs A1 gives 2
@@ -448,10 +471,46 @@ const FORMULAS: &str = "
     =IF(B1,SUM(A1:B2,1+F1),C1) needs B1 A1 A2 B2 F1 gives 20
     =IFERROR(1/D1,A1) needs D1 A1 gives 2
     =NOT(AND(B1,OR(D1,A1=2))) needs B1 D1 A1 gives FALSE
+    =A1&E1 needs A1 E1 gives 2x
+    =E1&C1 needs E1 C1 gives #REF!
+    =C1&E1 needs C1 gives #REF!
+    =H1&H1 needs H1 gives héllohéllo
+    =A1+F1&A2 needs A1 F1 A2 gives 55
+    =B1&G1&D2 needs B1 D2 gives TRUE-1
+    =LEN(H1&H1&H1&H1&H1&H1&H1&H1) needs H1 gives 40
+    =H1&H1&H1&H1&H1&H1&H1&H1&H1 needs H1 gives #VALUE!
+    =LEFT(H1,A1) needs H1 A1 gives hé
+    =LEFT(H1) needs H1 gives h
+    =LEFT(H1,G1)=\"\" needs H1 gives TRUE
+    =LEFT(H1,D2) needs H1 D2 gives #VALUE!
+    =LEFT(H1,B1) needs H1 B1 gives #VALUE!
+    =LEFT(C1,D2) needs C1 gives #REF!
+    =LEFT(H1,C1) needs H1 C1 gives #REF!
+    =RIGHT(H1,F1) needs H1 F1 gives llo
+    =RIGHT(H1) needs H1 gives o
+    =RIGHT(H1,B2) needs H1 B2 gives héllo
+    =RIGHT(C1) needs C1 gives #REF!
+    =MID(H1,A1,F1) needs H1 A1 F1 gives éll
+    =MID(H1,E2,B2) needs H1 E2 B2 gives lo
+    =MID(H1,B2,C2)=\"\" needs H1 B2 C2 gives TRUE
+    =MID(H1,B1,C1) needs H1 B1 C1 gives #REF!
+    =MID(H1,E1,F1) needs H1 E1 F1 gives #VALUE!
+    =MID(H1,G1,F1) needs H1 F1 gives #VALUE!
+    =MID(H1,C1,F1) needs H1 C1 gives #REF!
+    =MID(A2*B2,C2,C2) needs A2 B2 C2 gives 4
+    =LEN(H1) needs H1 gives 5
+    =LEN(B1) needs B1 gives 4
+    =LEN(C1) needs C1 gives #REF!
+    =LEFT(E1&H1,A1)=\"xh\" needs E1 H1 A1 gives TRUE
+    =IF(LEN(H1)=A2,H1,A1) needs H1 A2 gives héllo
+    =SUM(H1,A1) needs H1 A1 gives 2
+    =MATCH(H1,D1:H1) needs H1 D1 E1 F1 gives 5
+    =IFERROR(LEFT(E1&H1,D2),A1) needs E1 H1 D2 A1 gives 2
 ";
 
 #[test]
 fn formulas_go_on_where_they_stopped(rt: HostRuntime) -> Result<(), Fail> {
+    let mut ran: usize = 0;
     for line in FORMULAS.lines() {
         let Some((formula, needs)) = line.trim_start().split_once(" needs ") else {
             continue;
@@ -460,6 +519,8 @@ fn formulas_go_on_where_they_stopped(rt: HostRuntime) -> Result<(), Fail> {
             continue;
         };
         try_formula(&rt, rt.alloc(), formula, needs, want)?;
+        ran = ran.saturating_add(1);
     }
+    assert_eq!(rt; ran, 93);
     Ok(())
 }

@@ -10,6 +10,8 @@ pub enum Work {
     First,
     /// The second one, beside the value of the first.
     Second(Value),
+    /// MID's third value, beside the first one and the number of the second, 0 where it has none.
+    Third(Value, Int),
     /// The argument of AND or OR before this one.
     Turn(u16),
     /// The argument of a fold before this one, and the numbers so far in one.
