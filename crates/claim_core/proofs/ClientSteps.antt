@@ -13,7 +13,7 @@ use Rattle.claim_core.specs.Pending.{IsPending}
 use Rattle.demand_spec.specs.Laws.{In}
 use Rattle.cell_words.specs.declared.cell_word.CellWord.{CellWord}
 use Rattle.cell_words.specs.declared.cell_word.CellWord.TheVariants.{Stale, Claimed, Done}
-use Rattle.cell_words.specs.Records.{tag_of, record_words, value_of, values_of, IsShown, Spells}
+use Rattle.cell_words.specs.Records.{tag_of, stored_words, record_words, value_of, values_of, IsShown, Spells}
 use Rattle.cell_words.proofs.Counts.{values_sized}
 use Rattle.claim_core.specs.declared.event.Event.TheVariants as ev
 use Rattle.claim_core.specs.declared.event.Claim.TheVariants as claim
@@ -102,15 +102,29 @@ spelt_after s n u w all first is fits = (
   λ j l. subst (λ (hs : List Held). map (held_value j) hs ≡ map (λ _. Some (value_of s j)) hs) (sym is) (value_tagged j (tag_of s) (value_of s j) u.held (first j (omega arith))),
 )
 
-two_long : (xs : List ℕ) → length xs ≡ 2 → get_or xs 0 0 ∷ get_or xs 1 0 ∷ [] ≡ xs
-two_long [] e = absurd (omega arith)
-two_long (x ∷ []) e = absurd (omega arith)
-two_long (x ∷ y ∷ []) e = refl
-two_long (x ∷ y ∷ z ∷ xs) e = absurd (omega arith)
+-- its value words, one by one
+abbrev pub each_value : Shown → List ℕ
+each_value s = value_of s 0 ∷ value_of s 1 ∷ value_of s 2 ∷ value_of s 3 ∷ value_of s 4 ∷ value_of s 5 ∷ value_of s 6 ∷ []
 
--- a tag and two value words that were loaded
-pub loaded_spells : (s : Shown) (tag low high : ℕ) → tag ≡ tag_of s → low ≡ value_of s 0 → high ≡ value_of s 1 → IsShown s → Spells tag (low ∷ high ∷ []) s
-loaded_spells s tag low high t l h fits = record { tag_word = t; value_words = (λ i. l i ∷ h i ∷ []) ∙ two_long (values_of s) (values_sized s); shown = fits }
+seven_long : (xs : List ℕ) → length xs ≡ 7 → get_or xs 0 0 ∷ get_or xs 1 0 ∷ get_or xs 2 0 ∷ get_or xs 3 0 ∷ get_or xs 4 0 ∷ get_or xs 5 0 ∷ get_or xs 6 0 ∷ [] ≡ xs
+seven_long [] e = absurd (omega arith)
+seven_long (a ∷ []) e = absurd (omega arith)
+seven_long (a ∷ b ∷ []) e = absurd (omega arith)
+seven_long (a ∷ b ∷ c ∷ []) e = absurd (omega arith)
+seven_long (a ∷ b ∷ c ∷ d ∷ []) e = absurd (omega arith)
+seven_long (a ∷ b ∷ c ∷ d ∷ f ∷ []) e = absurd (omega arith)
+seven_long (a ∷ b ∷ c ∷ d ∷ f ∷ g ∷ []) e = absurd (omega arith)
+seven_long (a ∷ b ∷ c ∷ d ∷ f ∷ g ∷ h ∷ []) e = refl
+seven_long (a ∷ b ∷ c ∷ d ∷ f ∷ g ∷ h ∷ i ∷ xs) e = absurd (omega arith)
+
+-- a tag and the value words that were loaded
+pub loaded_spells : (s : Shown) (tag : ℕ) (words : List ℕ) → tag ≡ tag_of s → words ≡ each_value s → IsShown s → Spells tag words s
+loaded_spells s tag words t w fits = record { tag_word = t; value_words = w ∙ seven_long (values_of s) (values_sized s); shown = fits }
+
+-- what the book of the tests shows first has two value words
+pub seven_few : record_words (Shown.Val (Value.Number (pos 7))) ≤ 2
+unfolding stored_words
+seven_few = omega arith
 
 -- what the book of the tests holds, by whether an address is one of its two
 abbrev one_of : Bool → Bool → Option Content

@@ -3,6 +3,7 @@ use Rattle.std.specs.Prelude.{◌≡◌, ℕ, ◌-◌, ◌*◌, ◌<◌, pos, tr
 use Rattle.cell_words.specs.declared.TheConstants.{WORDS}
 use Rattle.cell_values.specs.declared.address.Addr.{Addr}
 use Rattle.cell_values.specs.declared.values.Shown.{Shown}
+use Rattle.cell_values.specs.Values.{IsShownOf}
 use Rattle.cell_words.specs.declared.cell_word.CellWord.{CellWord}
 use Rattle.cell_words.specs.declared.cell_word.CellWord.TheVariants.{Claimed}
 use Rattle.formula_trees.specs.Expr as expr
@@ -24,9 +25,9 @@ IsClaimed v i n c = Seen v i (Claimed c) × (c < n)
 abbrev pub SawDone : View → ℕ → Type 0
 SawDone v i = (k : ℕ) × SeenDone v i k
 
--- the pass is one of the round, and the book shows this at its cell i
+-- the pass is one of the round, and the book shows this at its cell i, a value of its texts or a mark
 abbrev pub Carries : RoundSeen → PassSeen → ℕ → Shown → Type 0
-Carries r p i s = IsPassOf r p × (i < length r.setup.cells) × (s ≡ shown_in r.setup i)
+Carries r p i s = IsPassOf r p × (i < length r.setup.cells) × (s ≡ shown_in r.setup i) × IsShownOf r.setup.book.texts s
 
 -- A1
 abbrev pub first_cell : Addr

@@ -1,11 +1,13 @@
 //! A client of two cells and two passes.
 
-ghost use Rattle.std.specs.Prelude.{◌≡◌, ◌+◌, ◌<◌, [], map, length, slice_index, Some, All, IsNone, IsSome, IfSome, MatchOption};
+ghost use Rattle.std.specs.Prelude.{◌≡◌, ◌+◌, ◌<◌, ◌≤◌, [], map, length, slice_index, Some, All, IsNone, IsSome, IfSome, MatchOption};
 ghost use Rattle.cell_words.specs.declared.cell_word.CellWord.TheVariants as word;
-ghost use Rattle.cell_words.specs.Records.{tag_of, value_of};
+ghost use Rattle.cell_words.specs.declared.TheConstants.{WORDS};
+ghost use Rattle.cell_words.specs.Records.{record_words, tag_of, value_of};
 ghost use Rattle.claim_core.specs.declared.event.Claim.TheVariants as answer;
 ghost use Rattle.claim_core.specs.declared.event.Publish.TheVariants as publish;
 ghost use Rattle.cell_values.specs.Addresses.{same_addr};
+ghost use Rattle.cell_values.specs.Values.{IsShownOf};
 ghost use Rattle.claim_core.specs.Rule.{Seen, SeenDone, shown_in, cell_in};
 ghost use Rattle.claim_core.specs.Steps.{HasSpelt, rec_of};
 ghost use Rattle.claim_core.specs.Passes.{IsPassOf, IsFresh, IsIdle, IsTurnOf, Stays, number};
@@ -122,9 +124,10 @@ fn takes<'b, B: BookView>(round: &Round<'b, B>, pass: &mut Pass) -> u32
     round.take_record(pass)
 }
 
-// Writes what is shown into the record that is held.
+// Writes what is shown, a value of the book's texts or a mark, into the record that is held.
 fn spells<'b, B: BookView>(round: &Round<'b, B>, pass: &mut Pass, shown: Shown)
-    requires { IsPassOf round.now pass.old × IsSome pass.old.taken }
+    requires pass { IsPassOf round.now pass.old × IsSome pass.old.taken }
+    requires texts { IsShownOf round.now.setup.book.texts shown }
     ensures pass { Stays round.now pass.old pass.new × IsSome pass.new.taken }
     ensures more { SeesMore pass.old.view pass.new.view }
     ensures spelt { HasSpelt shown pass.new.view }
@@ -176,29 +179,37 @@ fn decodes<'b, B: BookView>(
     ensures shown { result ≡ Some (shown_in round.now.setup i) }
 {
     let tag = round.load_tag(pass, rec);
-    let low = round.load_value(pass, rec, 0);
-    let high = loads_high(round, pass, i, rec, tag);
-    read_record(tag, &[low, high])
+    let first = loads_word(round, pass, i, rec, tag, 0);
+    let second = loads_word(round, pass, i, rec, tag, 1);
+    let third = loads_word(round, pass, i, rec, tag, 2);
+    let fourth = loads_word(round, pass, i, rec, tag, 3);
+    let fifth = loads_word(round, pass, i, rec, tag, 4);
+    let sixth = loads_word(round, pass, i, rec, tag, 5);
+    let seventh = loads_word(round, pass, i, rec, tag, 6);
+    read_record(tag, &[first, second, third, fourth, fifth, sixth, seventh])
 }
 
-// The second value word of that record. It is 0 where the tag says that it is not stored.
-fn loads_high<'b, B: BookView>(
+// A value word of that record. It is 0 where the tag says that it is not stored.
+fn loads_word<'b, B: BookView>(
     round: &Round<'b, B>,
     pass: &mut Pass,
     i: u32,
     rec: u32,
     tag: u64,
+    k: u32,
 ) -> u64
     requires pass { IsPassOf round.now pass.old × (rec < length round.now.setup.cells + round.now.setup.workers) × SeenDone pass.old.view i rec }
     requires tag { tag ≡ tag_of (shown_in round.now.setup i) }
+    requires word { k < WORDS }
     ensures pass { Stays round.now pass.old pass.new × (pass.new.taken ≡ pass.old.taken) }
-    ensures word { result ≡ value_of (shown_in round.now.setup i) 1 }
+    ensures seen { SeenDone pass.new.view i rec }
+    ensures word { result ≡ value_of (shown_in round.now.setup i) k }
 {
     let _cell = i;
-    if tag_words(tag) < 2 {
+    if tag_words(tag) <= k {
         return 0;
     }
-    round.load_value(pass, rec, 1)
+    round.load_value(pass, rec, k)
 }
 
 // One pass after the other.
@@ -213,6 +224,7 @@ fn one_by_one<'b, B: BookView, R: Abort>(
     requires a { Starts round.now a.old 0 }
     requires b { Starts round.now b.old 1 }
     requires shown { (first ≡ shown_in round.now.setup 0) × (second ≡ shown_in round.now.setup 1) }
+    requires texts { IsShownOf round.now.setup.book.texts first × IsShownOf round.now.setup.book.texts second }
     ensures { IsPassOf round.now a.new × IsPassOf round.now b.new }
 {
     sees(rt, round, a, 0, CellWord::Stale);
@@ -240,6 +252,7 @@ fn at_once<'b, B: BookView, R: Abort>(
     requires a { Starts round.now a.old 0 }
     requires b { Starts round.now b.old 1 }
     requires shown { (first ≡ shown_in round.now.setup 0) × (second ≡ shown_in round.now.setup 1) }
+    requires texts { IsShownOf round.now.setup.book.texts first × IsShownOf round.now.setup.book.texts second }
     ensures { IsPassOf round.now a.new × IsPassOf round.now b.new }
 {
     sees(rt, round, b, 0, CellWord::Stale);
@@ -271,6 +284,7 @@ fn crossed<'b, B: BookView, R: Abort>(
     requires a { Starts round.now a.old 0 }
     requires b { Starts round.now b.old 1 }
     requires shown { (first ≡ shown_in round.now.setup 0) × (second ≡ shown_in round.now.setup 1) }
+    requires texts { IsShownOf round.now.setup.book.texts first × IsShownOf round.now.setup.book.texts second }
     ensures { IsPassOf round.now a.new × IsPassOf round.now b.new }
 {
     wins(rt, round, b, 1, 1);
@@ -287,7 +301,7 @@ fn crossed<'b, B: BookView, R: Abort>(
     sees(rt, round, b, 1, done(0, 1, 1));
 }
 
-// The first pass, in its turn, looks at the first cell, claims it, takes a record and writes it.
+// The first pass, in its turn, looks at the first cell, claims it, takes a record and writes it; two value words are enough.
 fn claims_first<'b, B: BookView>(
     round: &Round<'b, B>,
     a: &mut Pass,
@@ -295,6 +309,7 @@ fn claims_first<'b, B: BookView>(
     shown: Shown,
 ) -> (CellWord, Claim, u32, Turn)
     requires pass { Waits round.now a.old 0 × IsNone a.old.taken }
+    requires shown { IsShownOf round.now.setup.book.texts shown × (record_words shown ≤ 2) }
     requires turn { Turns round.now turn (two_words 0 word.Stale word.Stale 0 0 0) }
     ensures pass { Waits round.now a.new 0 × (a.new.taken ≡ Some 0) × (rec_of a.new.view.held ≡ 0) }
     ensures seen { Seen a.new.view 0 (word.Claimed 0) × HasSpelt shown a.new.view }
@@ -374,6 +389,7 @@ fn by_turns<'b, B: BookView>(
     shown: Shown,
 ) -> (CellWord, CellWord, Publish, CellWord, u64)
     requires passes { Waits round.now a.old 0 × IsNone a.old.taken × Waits round.now b.old 1 × (shown ≡ shown_in round.now.setup 0) }
+    requires shown { IsShownOf round.now.setup.book.texts shown × (record_words shown ≤ 2) }
     requires turn { Turns round.now turn (first_words round.now.setup) }
     ensures passes { Waits round.now a.new 0 × Waits round.now b.new 1 }
     ensures found { (result.0 ≡ word.Stale) × (result.1 ≡ word.Claimed 0) × (result.2 ≡ publish.Won) × (result.3 ≡ word.Done 0 0 0) × (result.4 ≡ tag_of shown) }

@@ -1,5 +1,5 @@
 -- What is recalled of a cell is what is looked up.
-use Rattle.std.proofs.Common.{◌≡◌, ℕ, zero, suc, ◌<◌, List, [], ◌∷◌, length, get_or, refl, sym, ap, ◌∙◌, subst, Option, Some, None}
+use Rattle.std.proofs.Common.{◌≡◌, ℕ, zero, suc, ◌<◌, List, [], ◌∷◌, length, get_or, refl, sym, ap, ◌∙◌, subst, Option, Some, None, IfSome}
 use Rattle.cell_values.specs.declared.address.Addr.{Addr}
 use Rattle.cell_values.specs.declared.values.Shown.{Shown}
 use Rattle.cell_values.specs.declared.values.Value.{Value}
@@ -14,8 +14,8 @@ use Rattle.demand_spec.proofs.Results.{shows_own, shows_its_texts}
 use Rattle.workbook_core.specs.Books.{SharedBook, IsWorkbook}
 use Rattle.formula_eval.specs.declared.machine.Look.{Look}
 use Rattle.formula_eval.specs.Evaluations.{found_as, MeansValue}
-use Rattle.worker_machine.specs.Jobs.{Pending, number_in, cell_number}
-use Rattle.worker_machine.specs.Evaluation.{known_value, stored_value, value_from, values}
+use Rattle.worker_machine.specs.Jobs.{Pending, cell_at, number_in, cell_number}
+use Rattle.worker_machine.specs.Evaluation.{AllRight, known_value, stored_value, value_from, values}
 use Rattle.worker_machine.proofs.Places.{number_some, number_none}
 use Rattle.worker_machine.proofs.Numbers.{KnownList}
 use Rattle.worker_machine.proofs.Shows.{values_part, val_shown}
@@ -74,6 +74,11 @@ look_shows b e a v part q = by_formula (formula_at b a) refl q
 pub seen_meant : (w : SharedBook) (cells : List Addr) (k : KnownList) (results : List (Addr × Shown)) (a : Addr) (r : Look) → IsWorkbook w → IsRecall w cells k results → found_as r a ≡ look w.book (values (cells_in w cells) k) a → MeansValue w.book.texts r
 seen_meant w cells k results a (Look.Val v) h s e = subst (IsShownOf w.book.texts) (look_shows w.book (values (cells_in w cells) k) a v (values_part (cells_in w cells) k s.pending s.right) (sym e)) (shows_its_texts w.book (workbook_found w h) a)
 seen_meant w cells k results a Look.Missing h s e = tt
+
+-- a result that is known is of the book's texts
+pub known_meant : (w : SharedBook) (cells : List Addr) (k : KnownList) (i : ℕ) (o : Option Shown) → IsWorkbook w → AllRight (cells_in w cells) k → o ≡ get_or k i None → IfSome o (IsShownOf w.book.texts)
+known_meant w cells k i (Some r) h right e = subst (IsShownOf w.book.texts) (sym (right i r (sym e))) (shows_its_texts w.book (workbook_found w h) (cell_at (cells_in w cells) i))
+known_meant w cells k i None h right e = tt
 
 -- a look, by what the cell holds
 

@@ -1,5 +1,6 @@
 //! A stack of pending cells whose evaluations stay open along it.
-ghost use Rattle.std.specs.Prelude.{◌≡◌, ◌<◌, ◌≤◌, true, false, Some, None, ◌∷◌, length, get_or, set, IfOk};
+ghost use Rattle.std.specs.Prelude.{◌≡◌, ◌<◌, ◌≤◌, true, false, Some, None, ◌∷◌, length, get_or, set, IfOk, IfSome};
+ghost use Rattle.cell_values.specs.Values.{IsShownOf};
 ghost use Rattle.worker_machine.specs.declared.state.Entry.{Entry as OnStack};
 ghost use Rattle.worker_machine.specs.Jobs.{cell_number};
 ghost use Rattle.worker_machine.specs.Evaluation.{LinkTo, cells_of, first_from, has, learn_top, mark_cycle, part_to, pop};
@@ -18,7 +19,7 @@ use worker_machine::Entry;
 
 /// A stack of pending cells and what is known of all of them. The evaluation of each cell that was asked, and of which
 /// nothing is known, stands open. A cell is named by its number among the pending ones, from 0. All memory is taken by
-/// `new`: for each cell an entry and a note, and for each level of its formula 48 bytes.
+/// `new`: for each cell an entry and a note, and for each level of its formula 96 bytes.
 #[derive(Drop)]
 pub struct DemandStack<'b> {
     book: &'b Workbook,
@@ -107,9 +108,11 @@ impl<'b> DemandStack<'b> {
     /// What is known of a cell.
     pub fn known(&self, i: u32) -> Option<Shown>
         ensures known { result ≡ get_or self.now.known i None }
+        ensures texts { IfSome result (IsShownOf self.now.shared.book.texts) }
         ensures sees { IsDemandStack self.now }
     {
-        let _ = &self.book;
+        // `count` tells what all workbooks keep.
+        let _count = self.book.count();
         shown_of(&self.notes, i as usize)
     }
 

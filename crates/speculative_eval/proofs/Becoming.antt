@@ -77,8 +77,8 @@ words_read m i r t e h = (reads_in (job_of m) h.view (state_of m) (ReadingValue 
 pub words_room : (m : Machine) (i r t : ℕ) → m.doing ≡ Doing.ReadingValue i r t → IsWorking m → length m.words < WORDS
 words_room m i r t e h = (let more = (words_read m i r t e h).more in omega (arith, more, tag_words_small t))
 
-pub tag_known : (m : Machine) (i r t : ℕ) → m.doing ≡ Doing.ReadingValue i r t → IsWorking m → (1 ≤ t) × (t ≤ 7)
-tag_known m i r t e h = subst (λ n. (1 ≤ n) × (n ≤ 7)) (sym (words_read m i r t e h).tag) (tag_range (shows (pending_of m.demands) i))
+pub tag_known : (m : Machine) (i r t : ℕ) → m.doing ≡ Doing.ReadingValue i r t → IsWorking m → (1 ≤ t) × (t ≤ 8)
+tag_known m i r t e h = subst (λ n. (1 ≤ n) × (n ≤ 8)) (sym (words_read m i r t e h).tag) (tag_range (shows (pending_of m.demands) i))
 
 value_comes : (m : Machine) (i r t w : ℕ) (words : List ℕ) (o : Option Shown) → m.doing ≡ Doing.ReadingValue i r t → words ≡ m.words ++ w ∷ [] → ltb (length words) (tag_words t) ≡ false
     → shown_read t (filled words) ≡ o → CanBecome m (after_load_value (state_of m) w (state_of m).phase) → CanBecome m (after_record (state_of m) i o)

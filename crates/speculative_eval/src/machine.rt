@@ -3,6 +3,8 @@
 ghost use Rattle.std.specs.Prelude.{◌≡◌, ◌<◌, ◌≤◌, ◌*◌, ◌/◌, Some, None, ◌∷◌, IfOk, IfSome, List};
 ghost use Rattle.cell_words.specs.declared.TheConstants.{WORDS};
 ghost use Rattle.cell_values.specs.declared.TheConstants.{MAX_BOOK_CELLS};
+ghost use Rattle.cell_values.specs.Texts.{Texts};
+ghost use Rattle.cell_values.specs.Values.{IsShownOf};
 ghost use Rattle.claim_core.specs.Pending.{IsPending};
 ghost use Rattle.worker_machine.specs.declared.state.Entry.{Entry as OnStack};
 ghost use Rattle.worker_machine.specs.Evaluation.{pop};
@@ -51,6 +53,7 @@ fn first_cell(number: u8, cells: usize, workers: u8) -> u32
 
 // The result of a cell that this claimer is owed goes into a record.
 fn store_step(cell: u32, claimer: u8, shown: Shown, held: Option<Store>) -> Next
+    requires { (ts : Texts) × IsShownOf ts shown }
     ensures step { result ≡ next_store cell claimer shown held }
     ensures fits { FitsTag result (Some shown) }
 {
@@ -86,6 +89,7 @@ fn fresh_store(rec: u32) -> Store
 
 // The top cell is known.
 fn known_step(entry: Entry, shown: Shown, held: Option<Store>) -> Next
+    requires { (ts : Texts) × IsShownOf ts shown }
     ensures step { (s : State) → s.held ≡ held → result ≡ next_known s entry.cell shown entry.owed }
     ensures fits { FitsTag result (Some shown) }
 {

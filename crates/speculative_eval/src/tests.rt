@@ -541,6 +541,14 @@ const LOOPS: &str = "
     =IF(A11>1,A14,A11) shows Cycle(1)
 ";
 
+// A computed text goes from one worker to the other in seven words.
+const TEXTS: &str = "
+    =A2&A3 shows Val(Short(ShortText { len: 2, bytes: [97, 50, 0, 0, 0, 0, 0, 0, 0, 0, 0, 0, 0, 0, 0, 0, 0, 0, 0, 0, 0, 0, 0, 0, 0, 0, 0, 0, 0, 0, 0, 0, 0, 0, 0, 0, 0, 0, 0, 0, 0, 0, 0, 0, 0, 0, 0, 0] }))
+    =LEFT(\"abc\",1) shows Val(Short(ShortText { len: 1, bytes: [97, 0, 0, 0, 0, 0, 0, 0, 0, 0, 0, 0, 0, 0, 0, 0, 0, 0, 0, 0, 0, 0, 0, 0, 0, 0, 0, 0, 0, 0, 0, 0, 0, 0, 0, 0, 0, 0, 0, 0, 0, 0, 0, 0, 0, 0, 0, 0] }))
+    =LEN(A2)+1 shows Val(Number(2))
+    =A1=\"a2\" shows Val(Bool(true))
+";
+
 // One order a line; the first one is empty.
 const ORDERS: &str = "
 1
@@ -581,6 +589,7 @@ fn every_order_shows_the_same(rt: HostRuntime) -> Result<(), Fail> {
     shows_in_all_orders(&rt, rt.alloc(), TWO_CELLS)?;
     shows_in_all_orders(&rt, rt.alloc(), VALUES)?;
     shows_in_all_orders(&rt, rt.alloc(), CHAIN)?;
+    shows_in_all_orders(&rt, rt.alloc(), TEXTS)?;
     shows_in_all_orders(&rt, rt.alloc(), LOOPS)
 }
 

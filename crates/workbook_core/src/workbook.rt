@@ -80,6 +80,7 @@ impl Workbook {
     pub fn count(&self) -> u32
         ensures count { result ≡ length self.now.book.cells }
         ensures few { result ≤ MAX_BOOK_CELLS }
+        ensures workbook { IsWorkbook self.now }
     {
         self.cells.len() as u32
     }

@@ -10,6 +10,7 @@ pub tag_carried : (s : Shown) → tag_of s ≡ 7 → s ≡ Shown.ToCycle
 unfolding tag_of
 tag_carried (Shown.Val (Value.Number n)) e = absurd (omega arith)
 tag_carried (Shown.Val (Value.Text n)) e = absurd (omega arith)
+tag_carried (Shown.Val (Value.Short n)) e = absurd (omega arith)
 tag_carried (Shown.Val (Value.Bool n)) e = absurd (omega arith)
 tag_carried (Shown.Val Value.Blank) e = absurd (omega arith)
 tag_carried (Shown.Val (Value.Error n)) e = absurd (omega arith)

@@ -9,7 +9,6 @@ use Rattle.claim_core.specs.TestClient.{two_words}
 use Rattle.claim_core.specs.Rule.{cell_in, Seen}
 use Rattle.claim_core.specs.Steps.{words_after, rec_of, claim_answer, valued, tagged, grown, HasSpelt}
 use Rattle.claim_core.proofs.SeenEvents.{still_seen}
-use Rattle.cell_words.proofs.Counts.{record_words_small}
 use Rattle.claim_core.proofs.ClientSteps.{won_by, stores_none, stores_more, spelt_after}
 use Rattle.claim_core.proofs.TurnSteps.{InTurn, takes_turn, next, rec_stays}
 use Rattle.claim_core.proofs.tests.claims_first.Goals as goal
@@ -51,7 +50,7 @@ returns-clause-seen g c =
     let s5 = still_seen _ _ c.store_value-2.new.pass.view c.store_tag.new.pass.view c.store_tag.ensures.step 0 (Claimed 0) s4 in
     let first = stores_more s 0 c.take_record-taken.new.pass.view c.store_value.new.pass.view (ap (λ v. v.held) c.store_value.ensures.step ∙ ap (λ x. map (valued 0 x) held) c.record_value.ensures.value) (stores_none s c.take_record-taken.new.pass.view) in
     let both = stores_more s 1 c.store_value.new.pass.view c.store_value-2.new.pass.view (ap (λ v. v.held) c.store_value-2.ensures.step ∙ ap (λ x. map (valued 1 x) c.store_value.new.pass.view.held) c.record_value-2.ensures.value) first in
-    let spelt = spelt_after s 2 c.store_value-2.new.pass.view c.store_tag.new.pass.view (record_words_small s) both
+    let spelt = spelt_after s 2 c.store_value-2.new.pass.view c.store_tag.new.pass.view c.requires.shown.1 both
     (ap (λ v. v.held) c.store_tag.ensures.step ∙ ap (λ x. map (tagged x) c.store_value-2.new.pass.view.held) c.record_tag.ensures.value)
-    c.record_tag.ensures.shown in
+    (c.record_tag.ensures.shown c.args.round.now.setup.book.texts c.requires.shown.0) in
     (subst (λ (v : View). Seen v 0 (Claimed 0)) (sym c.give_turn-turn.ensures.view) s5, subst (HasSpelt s) (sym c.give_turn-turn.ensures.view) spelt)

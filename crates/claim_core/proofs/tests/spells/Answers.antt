@@ -21,4 +21,4 @@ returns-clause-spelt g c =
     let is = c.record_words-k-end.ensures.value in
     spelt_after c.args.shown c.loop-k.k c.loop-k.pass.view c.store_tag.new.pass.view (omega arith) c.loop-k.invariant.stored
     (ap (λ v. v.held) c.store_tag.ensures.step ∙ ap (λ x. map (tagged x) c.loop-k.pass.view.held) c.record_tag.ensures.value)
-    c.record_tag.ensures.shown
+    (c.record_tag.ensures.shown c.args.round.now.setup.book.texts c.requires.texts)
