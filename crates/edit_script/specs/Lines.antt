@@ -32,9 +32,10 @@ trimmed_command names word text =
     else (if bytes_eq word (codes "copy") then or_bad (copy_in names text)
     else (if bytes_eq word (codes "show") then or_bad (option_map Line.Show (target_in names text))
     else (if bytes_eq word (codes "print") then or_bad (option_map Line.Print (sheet_in names text))
+    else (if bytes_eq word (codes "save") then or_bad (option_map Line.Save (sheet_in names text))
     else (if bytes_eq word (codes "recalc") then or_bad (alone Line.Recalc text)
     else (if bytes_eq word (codes "cycles") then or_bad (alone Line.Cycles text)
-    else Err LineFault.UnknownCommand)))))
+    else Err LineFault.UnknownCommand))))))
 
 -- a command and what stands behind it and its spaces; the field of `set` keeps the spaces at its end
 abbrev pub command_in : Names → List ℕ → List ℕ → Result Line LineFault
@@ -58,6 +59,7 @@ IsLineOf names (Line.Clear at) = IsCellOf names at
 IsLineOf names (Line.Copy from to) = IsCellOf names from × IsAreaOf names to
 IsLineOf names (Line.Show at) = IsCellOf names at
 IsLineOf names (Line.Print sheet) = sheet < length names
+IsLineOf names (Line.Save sheet) = sheet < length names
 IsLineOf names Line.Recalc = ⊤
 IsLineOf names Line.Cycles = ⊤
 

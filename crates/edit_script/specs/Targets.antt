@@ -1,5 +1,5 @@
 -- The cells, areas and sheets that a line names.
-use Rattle.std.specs.Prelude.{ℕ, ◌*◌, ◌<◌, ◌≤◌, length, Bool, ◌==◌, nat_le, List, [], ◌∷◌, drop, Option, Some, None, option_map, option_and_then, if◌then◌else◌}
+use Rattle.std.specs.Prelude.{ℕ, ◌*◌, ◌<◌, ◌≤◌, length, Bool, ◌==◌, nat_le, List, [], ◌∷◌, Option, Some, None, option_map, option_and_then, if◌then◌else◌}
 use Rattle.std.specs.List.{list_any, before_first, after_first}
 use Rattle.cell_values.specs.declared.TheConstants.{MAX_RANGE_CELLS}
 use Rattle.cell_values.specs.declared.address.Addr.{Addr}
@@ -9,7 +9,6 @@ use Rattle.cell_values.specs.Areas.{between_cells, one_cell, height, width, IsAr
 use Rattle.cell_values.specs.CellText.{read_addr}
 use Rattle.cell_values.specs.Interned.{number_of}
 use Rattle.cell_values.specs.Names.{is_plain_name}
-use Rattle.edit_script.specs.Pieces.{is_space}
 
 -- the names of the sheets
 abbrev pub Names : Type 0

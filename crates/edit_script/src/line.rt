@@ -18,6 +18,8 @@ pub enum Line {
     Show(Addr),
     /// The sheet with this number, from 0, is written.
     Print(u8),
+    /// The sheet with this number, from 0, is written with what its cells hold in place of what they show.
+    Save(u8),
     /// The book is recalculated.
     Recalc,
     /// The cycles are listed.

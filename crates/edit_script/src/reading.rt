@@ -12,7 +12,7 @@ use crate::{Line, LineFault};
 use cell_values::{FieldText, SheetNames};
 use std::alloc::Global;
 
-/// Reads a line of a script: `set`, `clear`, `copy`, `show`, `print`, `recalc`, `cycles`, a comment or an empty line.
+/// Reads a line of a script: `set`, `clear`, `copy`, `show`, `print`, `save`, `recalc`, `cycles`, a comment or an empty line.
 ///
 /// The line is without its LF; one CR at its end is dropped. The bytes have to be UTF-8, comments included; then the
 /// command has to be one of these, and then what stands behind it has to be right: the first of these that fails is the
@@ -90,6 +90,7 @@ fn read_trimmed(command: &str, text: &str, sheets: &SheetNames) -> Result<Line, 
         "copy" => or_bad(read_copy(text, sheets)),
         "show" => or_bad(read_show(text, sheets)),
         "print" => or_bad(read_print(text, sheets)),
+        "save" => or_bad(read_save(text, sheets)),
         "recalc" => or_bad(read_alone(Line::Recalc, text)),
         "cycles" => or_bad(read_alone(Line::Cycles, text)),
         _ => Err(LineFault::UnknownCommand),
@@ -125,6 +126,14 @@ fn read_print(text: &str, sheets: &SheetNames) -> Option<Line>
     ensures within { IfSome result (IsLineOf sheets.now) }
 {
     Some(Line::Print(read_sheet(sheets, text)?))
+}
+
+fn read_save(text: &str, sheets: &SheetNames) -> Option<Line>
+    requires { 0 < length sheets.now }
+    ensures same { result ≡ option_map Line.Save (sheet_in sheets.now text.now) }
+    ensures within { IfSome result (IsLineOf sheets.now) }
+{
+    Some(Line::Save(read_sheet(sheets, text)?))
 }
 
 /// Reads a cell, one space and an area.

@@ -110,6 +110,13 @@ const LINES: &str = "
     print 'my plan'=>E2
     print sheet1=>E2
     print Sheet1 x=>E2
+    save=>save 0
+    save~~=>save 0
+    save my plan=>save 1
+    save a:b~=>save 3
+    save 'my plan'=>E2
+    save Sheet1 x=>E2
+    Save=>E1
     recalc=>recalc
     recalc~~=>recalc
     recalc^=>recalc
@@ -126,7 +133,7 @@ const LINES: &str = "
 ";
 
 /// How many lines the table has.
-const COUNT: usize = 111;
+const COUNT: usize = 118;
 
 fn unspelled(alloc: Global, text: &str) -> Result<String, AllocError> {
     let mut line = String::new(alloc);
@@ -192,6 +199,7 @@ fn spell(alloc: Global, sheets: &SheetNames, line: &Line) -> Result<String, Allo
             push_cell(alloc, &mut text, *at)?;
         }
         Line::Print(sheet) => write!(text, "print {sheet}")?,
+        Line::Save(sheet) => write!(text, "save {sheet}")?,
         Line::Recalc => text.push_str("recalc")?,
         Line::Cycles => text.push_str("cycles")?,
     }

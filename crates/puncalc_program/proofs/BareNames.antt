@@ -1,7 +1,5 @@
 -- A sheet's name from what stands in front of its cells.
-use Rattle.std.proofs.Common.{◌≡◌, ◌≢◌, ℕ, ◌==◌, ◌||◌, ◌&&◌, List, [], ◌∷◌, ◌++◌, Bool, true, false, cond, refl, sym, subst, ap, ◌∙◌, codes, arith}
-use Rattle.std.specs.Char.{is_ascii_alphabetic, is_ascii_alphanumeric}
-use Rattle.std.specs.List.{list_all}
+use Rattle.std.proofs.Common.{◌≡◌, ◌≢◌, ℕ, List, [], ◌∷◌, ◌++◌, Bool, true, false, cond, refl, sym, subst, codes}
 use Rattle.cell_values.specs.Names.{is_plain_name, prefix_text}
 
 -- a plain name begins with no quote

@@ -1,5 +1,5 @@
 -- What an edit does with how things stand.
-use Rattle.std.proofs.Common.{◌≡◌, ℕ, ◌<◌, ◌≤◌, Bool, true, false, cond, ltb, List, [], length, Option, Some, None, Ok, refl, sym, subst, ap, ◌∙◌, arith}
+use Rattle.std.proofs.Common.{◌≡◌, ℕ, ◌<◌, ◌≤◌, cond, [], length, Option, Some, None, Ok, refl, sym, subst, ap, ◌∙◌}
 use Rattle.std.proofs.lemmas.Bool.{le-ltb, lt-ltb}
 use Rattle.std.specs.Result.{result_map_both}
 use Rattle.std.specs.Prelude.{Result, Err, OnOk, IfErr}
@@ -26,10 +26,10 @@ use Rattle.shared_expressions.specs.Trees.{Trees}
 use Rattle.recalculation.specs.declared.edit.Edit.{Edit}
 use Rattle.recalculation.specs.Calculations.{Calculation}
 use Rattle.recalculation.specs.Edits.{area_of, Means, texts_with, IsEditOf, IsEdited, PutsFault, MakesTooLarge, IsFaultOf, pending_by}
-use Rattle.sheet_loading.specs.Contents.{Names, Made, content_read}
+use Rattle.sheet_loading.specs.Contents.{Names, content_read}
 use Rattle.sheet_loading.proofs.Trees.{reads_tree, reads_fault}
 use Rattle.puncalc_program.specs.declared.refusals.LineRefusal.{LineRefusal}
-use Rattle.puncalc_program.specs.Script.{Standing, Turn, Goes, Stops, changed, put_turn, with_edit}
+use Rattle.puncalc_program.specs.Script.{Standing, Goes, Stops, changed, put_turn, with_edit}
 use Rattle.puncalc_program.specs.Desks.{Changes, edit_answer, edit_turn, Leaves}
 
 -- what a field puts is what it reads as

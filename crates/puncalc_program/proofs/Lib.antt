@@ -9,6 +9,7 @@ pub mod Generated
 pub mod Loading
 pub mod LoopCells
 pub mod Making
+pub mod Saving
 pub mod Scripts
 pub mod Sums
 pub mod Tracing

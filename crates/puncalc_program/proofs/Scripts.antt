@@ -1,5 +1,5 @@
 -- A script, line by line.
-use Rattle.std.proofs.Common.{◌≡◌, ℕ, suc, ◌+◌, ◌-◌, ◌<◌, ◌==◌, List, [], ◌∷◌, ◌++◌, length, take, drop, Option, Some, None, refl, sym, subst, ap, ◌∙◌, arith}
+use Rattle.std.proofs.Common.{◌≡◌, ℕ, suc, ◌+◌, ◌-◌, ◌<◌, ◌==◌, List, [], ◌∷◌, ◌++◌, length, take, drop, Some, None, refl, sym, subst, ap, ◌∙◌, arith}
 use Rattle.std.specs.Prelude.{Result, Ok, Err, IfOk}
 use Rattle.std.specs.List.{position_or_len}
 use Rattle.byte_streams.specs.Faults.{HasRisen}
@@ -8,14 +8,14 @@ use Rattle.edit_script.specs.Lines.{line_of}
 use Rattle.sheet_loading.specs.Contents.{Names}
 use Rattle.puncalc_program.specs.declared.refusals.LineRefusal.{LineRefusal}
 use Rattle.puncalc_program.specs.declared.stop.Stop.{Stop}
-use Rattle.puncalc_program.specs.Outputs.{Output, behind, refusal}
+use Rattle.puncalc_program.specs.Outputs.{Output, behind}
 use Rattle.puncalc_program.specs.Refusals.{refusal_line, line_refused}
 use Rattle.puncalc_program.specs.Script.{Standing, Turn, Goes, Stops, turn_of, after_turn, script_from, lines_of}
-use Rattle.puncalc_program.specs.Desks.{Leaves, Makes, Runs, pieces_of}
+use Rattle.puncalc_program.specs.Desks.{Makes, Runs}
 use Rattle.puncalc_program.specs.Writing as writing
 use Rattle.puncalc_program.specs.Writing.{Sunk, WritesAll, WritesPart, StopsWriting, Writes}
 use Rattle.puncalc_program.proofs.Cuts.{next_line, slice_from}
-use Rattle.puncalc_program.proofs.Written.{append_assoc, nothing_more, none_written, no_part, then_all, then_part, part_more, all_part, whole_part}
+use Rattle.puncalc_program.proofs.Written.{append_assoc, nothing_more, none_written, then_all, then_part, part_more}
 
 -- some pieces are written, and what is left to do gives the others
 pub record Follows (due rest : Output) (before now : Sunk) : Type 0 where

@@ -89,6 +89,7 @@ shows_to_cycle Shown.ToCycle = true
 abbrev pub value_number : Value → ℤ
 value_number (Value.Number n) = n
 value_number (Value.Text t) = pos 0
+value_number (Value.Short t) = pos 0
 value_number (Value.Bool b) = pos 0
 value_number Value.Blank = pos 0
 value_number (Value.Error c) = pos 0

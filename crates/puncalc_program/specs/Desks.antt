@@ -1,5 +1,5 @@
 -- What stands on the desk of a run: the book with what is pending, and the last round.
-use Rattle.std.specs.Prelude.{◌≡◌, ℕ, Option, Some, None, option_map, IfSome, IsSomeAnd, Result, Ok, Err, List, []}
+use Rattle.std.specs.Prelude.{◌≡◌, ℕ, Option, Some, None, option_map, IsSomeAnd, Result, Ok, Err, List, []}
 use Rattle.claim_core.specs.Passes.{OutcomeSeen}
 use Rattle.claim_core.specs.Rule.{Setup, Each, is_done}
 use Rattle.cell_values.specs.Areas.{one_cell}

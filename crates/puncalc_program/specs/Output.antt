@@ -1,5 +1,5 @@
 -- What a run writes, and how it ends, by its words, its files and its input alone.
-use Rattle.std.specs.Prelude.{ℕ, Bool, true, false, List, [], ◌∷◌, ◌++◌, Option, Some, None, Result, Ok, Err, nat_lt, length, map, codes, if◌then◌else◌}
+use Rattle.std.specs.Prelude.{ℕ, Bool, true, false, List, [], ◌∷◌, Option, Some, None, Result, Ok, Err, nat_lt, length, map, codes, if◌then◌else◌}
 use Rattle.byte_streams.specs.Folders.{StoredFile}
 use Rattle.cell_values.specs.Names.{bad_name, sheet_name}
 use Rattle.command_words.specs.Asking.{Request, show, edit, trace, demo, asked}

@@ -10,9 +10,10 @@ use Rattle.cell_values.specs.Fields.{raw_of}
 use Rattle.formula_grammar.specs.declared.faults.FaultKind.{FaultKind}
 use Rattle.formula_grammar.specs.Reading.{Reading}
 use Rattle.sheet_csv.specs.Row.{row_text}
-use Rattle.demand_spec.specs.Book.{Book, Content, formulas}
+use Rattle.demand_spec.specs.Book.{Book, formulas}
 use Rattle.demand_spec.specs.Edits.{Edit, Put, Copy, applied, pending_after}
 use Rattle.claim_core.specs.Rule.{Setup}
+use Rattle.book_save.specs.Rows.{first_long, saved_rows}
 use Rattle.cycle_finder.specs.Loops.{loops}
 use Rattle.sheet_loading.specs.Contents.{Names, Made, content_read}
 use Rattle.edit_script.specs.declared.line.Line.{Line}
@@ -70,6 +71,11 @@ count_line word n = word ++ codes " " ++ decimal n ++ 10 ∷ []
 abbrev pub loop_row : Names → List Addr → List ℕ
 loop_row names loop = row_text (map (cell_name names) loop)
 
+-- a sheet's rows with what its cells hold are written, unless a formula of it is too long
+abbrev pub saved_unless : Standing → List (List ℕ) → Option Addr → Turn
+saved_unless st rows None = Goes st rows
+saved_unless st rows (Some at) = Stops LineRefusal.FormulaTooLong
+
 -- what each kind of line does; what is shown is recalculated before
 unfoldable pub turn : Reading → Names → ℕ → Line → Standing → Turn
 turn read names workers Line.Nothing st = Goes st []
@@ -78,6 +84,7 @@ turn read names workers (Line.Clear at) st = changed st (one_cell at) (with_edit
 turn read names workers (Line.Copy from to) st = changed st to (with_edit (Copy from to) st.book)
 turn read names workers (Line.Show at) st = Goes (recalculated workers st) (row_text (cell_name names at ∷ cell_shows st.book at ∷ []) ∷ [])
 turn read names workers (Line.Print sheet) st = Goes (recalculated workers st) (sheet_rows st.book sheet)
+turn read names workers (Line.Save sheet) st = saved_unless st (saved_rows names st.book sheet) (first_long names st.book sheet)
 turn read names workers Line.Recalc st = Goes (recalculated workers st) (count_line (codes "recalculated") (length st.pending) ∷ [])
 turn read names workers Line.Cycles st = Goes (recalculated workers st) (count_line (codes "cycles") (length (loops st.book)) ∷ map (loop_row names) (loops st.book))
 

@@ -1,6 +1,7 @@
 //! What the lines of a script do, a method for each kind.
 
 ghost use Rattle.std.specs.Prelude.{◌≡◌, ◌<◌, ◌∷◌, ℕ, [], All, length, map, codes, string_bytes, IfOk};
+ghost use Rattle.book_save.specs.Rows.{first_long, saved_rows};
 ghost use Rattle.command_words.specs.Sound.{IsWithin};
 ghost use Rattle.command_words.specs.declared.TheConstants.{MAX_WORKERS};
 ghost use Rattle.cycle_finder.specs.Loops.{loops};
@@ -12,7 +13,7 @@ ghost use Rattle.recalculation.specs.Edits.{IsEditOf};
 ghost use Rattle.sheet_csv.specs.Row.{row_text};
 ghost use Rattle.puncalc_program.specs.Cells.{cell_name, cell_shows};
 ghost use Rattle.puncalc_program.specs.Desks.{Changes, Makes, edit_answer, edit_turn, shared_of};
-ghost use Rattle.puncalc_program.specs.Script.{Goes, count_line, loop_row, recalculated, turn};
+ghost use Rattle.puncalc_program.specs.Script.{Goes, count_line, loop_row, recalculated, saved_unless, turn};
 ghost use Rattle.puncalc_program.specs.Sheets.{sheet_rows};
 ghost use Rattle.puncalc_program.specs.Writing.{sunk, Writes};
 
@@ -21,6 +22,7 @@ use crate::names::cell_name;
 use crate::refusals::LineRefusal;
 use crate::stop::Stop;
 use crate::writing::put;
+use book_save::{SaveFault, save_sheet};
 use byte_streams::Sink;
 use cell_values::{Addr, Area, FieldText};
 use cycle_finder::{Loop, cycles, law_loops};
@@ -54,6 +56,7 @@ impl Desk {
             Line::Copy(from, to) => self.change(&Edit::Copy(from, to)),
             Line::Show(at) => self.show(workers, at, out),
             Line::Print(sheet) => self.print(workers, sheet, out),
+            Line::Save(sheet) => self.save(sheet, out),
             Line::Recalc => self.recalc(workers, out),
             Line::Cycles => self.list_cycles(workers, out),
         }
@@ -132,6 +135,22 @@ impl Desk {
         Ok(None)
     }
 
+    /// Writes a sheet with what its cells hold in place of what they show. Nothing is recalculated.
+    fn save<K: Sink>(&self, sheet: u8, out: &mut K) -> Result<Option<LineRefusal>, Stop>
+        requires { sheet < length self.now.names }
+        ensures { Makes (saved_unless self.now.standing (saved_rows self.now.names self.now.standing.book sheet) (first_long self.now.names self.now.standing.book sheet)) self.now.standing self.now.standing
+            (sunk K.written K.faults K.calls out.old) (sunk K.written K.faults K.calls out.new) result }
+    {
+        match save_sheet(self.alloc, self.calc.book(), sheet) {
+            Ok(saved) => {
+                put_all(saved.rows(), out)?;
+                Ok(None)
+            }
+            Err(SaveFault::TooLong(_)) => Ok(Some(LineRefusal::FormulaTooLong)),
+            Err(SaveFault::OutOfMemory) => Err(Stop::Memory),
+        }
+    }
+
     /// Recalculates, and writes how many cells were pending.
     fn recalc<R: Threads + Sync, P: Pace, K: Sink>(
         &mut self,
@@ -195,6 +214,16 @@ impl Desk {
         }
         write_row(self.alloc, &fields)
     }
+}
+
+/// Writes rows one after the other.
+fn put_all<K: Sink>(rows: &[Vec<u8>], out: &mut K) -> Result<(), Stop>
+    ensures { Writes (map (λ row. row.items) rows.now) (sunk K.written K.faults K.calls out.old) (sunk K.written K.faults K.calls out.new) result }
+{
+    for row in rows {
+        put(out, row)?;
+    }
+    Ok(())
 }
 
 /// What an edit came to, as the answer of a line.

@@ -25,6 +25,8 @@ pub enum LineRefusal {
     TooManyCells,
     /// E5: its bytes are no UTF-8.
     NotUtf8,
+    /// E8: it saves a sheet with a formula that prints to more than 1,024 bytes, and would not be read again.
+    FormulaTooLong,
 }
 
 /// The line that tells what is refused, with its end.
@@ -113,5 +115,6 @@ pub(crate) fn line_fault(alloc: Global, why: LineRefusal) -> Result<String, Allo
         LineRefusal::BadFormula(place, kind) => formula_fault(alloc, place, kind),
         LineRefusal::TooManyCells => String::from_str(alloc, ": E4"),
         LineRefusal::NotUtf8 => String::from_str(alloc, ": E5"),
+        LineRefusal::FormulaTooLong => String::from_str(alloc, ": E8"),
     }
 }

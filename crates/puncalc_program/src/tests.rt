@@ -57,6 +57,21 @@ const SHEETS: &str = "
     show \u{FEFF}a,TRUE`|'=x,-5`|=>0 a,TRUE|=x,-5|
 ";
 
+/// Sheets with computed texts.
+const COMPUTED: &str = "
+    show ab,=A1&1=>0 ab,ab1|
+    show ~=LEFT(~~h\u{E9}llo~~,2)&LEN(~~h\u{E9}llo~~)~=>0 h\u{E9}5|
+    show xxxxxxxxxxxxxxxxxxxxxxxxxxxxxxxxxxxxxxxxxxxxxxxx,~=A1&~~y~~~=>0 xxxxxxxxxxxxxxxxxxxxxxxxxxxxxxxxxxxxxxxxxxxxxxxx,#VALUE!|
+    show xxxxxxxxxxxxxxxxxxxxxxxxxxxxxxxxxxxxxxxxxxxxxxx,~=A1&~~y~~~=>0 xxxxxxxxxxxxxxxxxxxxxxxxxxxxxxxxxxxxxxxxxxxxxxx,xxxxxxxxxxxxxxxxxxxxxxxxxxxxxxxxxxxxxxxxxxxxxxxy|
+    show ~=MID(~~abc~~,4,2)=A2~=>0 TRUE|
+    show =1+2&3,~=MID(~~abc~~,2,2)~,~=RIGHT(~~abc~~,2)~,=LEN(12)=>0 33,bc,bc,2|
+    show =1&TRUE,~=1&~~,~~~,~=LEFT(~~abc~~,-1)~,~=MID(~~ab~~,TRUE,1/0)~=>0 1TRUE,~1,~,#VALUE!,#DIV/0!|
+    show =1&2,~=SUM(A1:A1)~,~=COUNT(A1:A1)~,=SUM(A1&0),=A1+1=>0 12,0,0,#VALUE!,#VALUE!|
+    show ~=VLOOKUP(~~k~~&1,A2:B3,2)~,|k0,5|k1,6=>0 6,|k0,5|k1,6|
+    show ~=B1&~~a~~~,~=LEFT(A1)~,=LEN(A1)=>0 #CYCLE(2)!,#CYCLE(2)!,#TOCYCLE!|
+    edit s.csv{ab,=A1&1|cd|}copy B1 B2|show B2|set A2 7|show B2|=>0 s!B2,cd1|s!B2,71|
+";
+
 /// Sheets that are refused.
 const REFUSED_SHEETS: &str = "
     show =SUM(A1|=>3 refused Sheet1!A1 at 7: F2|
@@ -68,6 +83,8 @@ const REFUSED_SHEETS: &str = "
     show =SUM()|=>3 refused Sheet1!A1 at 5: F5|
     show ~=NOT(1,2)~|=>3 refused Sheet1!A1 at 6: F5|
     show =A1:A2|=>3 refused Sheet1!A1 at 3: F2|
+    show =1&&2|=>3 refused Sheet1!A1 at 3: F2|
+    show =LEFT()|=>3 refused Sheet1!A1 at 6: F5|
     show =A65537|=>3 refused Sheet1!A1 at 1: F10|
     show =|=>3 refused Sheet1!A1 at 1: F2|
     show 1|=B7,=A1+=>3 refused Sheet1!B2 at 4: F2|
@@ -76,11 +93,13 @@ const REFUSED_SHEETS: &str = "
     show 1,%=>3 refused Sheet1 row 1 column 2: S1|
 ";
 
-/// Sheets of a household, of a roster and of an order.
+/// Sheets of a household, of a roster, of an order and of a trip, and a column with an empty line, which is no row.
 const EXAMPLES: &str = "
     show item,planned,spent,left,note|rent,80000,80000,=B2-C2,~=IF(D2<0,~~over~~,~~ok~~)~|food,40000,43250,=B3-C3,~=IF(D3<0,~~over~~,~~ok~~)~|bus,6000,4900,=B4-C4,~=IF(D4<0,~~over~~,~~ok~~)~|savings,15000,15000,=B5-C5,~=IF(D5<0,~~over~~,~~ok~~)~|sum,=SUM(B2:B5),=SUM(C2:C5),=SUM(D2:D5),~=IF(D6<0,~~over~~,~~ok~~)~|largest,=MAX(B2:B5),=MAX(C2:C5),,|percent for rent,=B2*100/B$6,=C2*100/C$6,,|=>0 item,planned,spent,left,note|rent,80000,80000,0,ok|food,40000,43250,-3250,over|bus,6000,4900,1100,ok|savings,15000,15000,0,ok|sum,141000,143150,-2150,over|largest,80000,80000,,|percent for rent,56,55,,|
     show day,Ann,Bob,Cyd,,shift,hours|Mon,early,late,night,,early,8|Tue,late,,early,,late,7|Wed,night,early,,,night,9|hours,~=IFERROR(VLOOKUP(B2,$F$2:$G$4,2,FALSE),0)+IFERROR(VLOOKUP(B3,$F$2:$G$4,2,FALSE),0)+IFERROR(VLOOKUP(B4,$F$2:$G$4,2,FALSE),0)~,~=IFERROR(VLOOKUP(C2,$F$2:$G$4,2,FALSE),0)+IFERROR(VLOOKUP(C3,$F$2:$G$4,2,FALSE),0)+IFERROR(VLOOKUP(C4,$F$2:$G$4,2,FALSE),0)~,~=IFERROR(VLOOKUP(D2,$F$2:$G$4,2,FALSE),0)+IFERROR(VLOOKUP(D3,$F$2:$G$4,2,FALSE),0)+IFERROR(VLOOKUP(D4,$F$2:$G$4,2,FALSE),0)~,,,|too much,=B5>20,=C5>20,=D5>20,,,|=>0 day,Ann,Bob,Cyd,,shift,hours|Mon,early,late,night,,early,8|Tue,late,,early,,late,7|Wed,night,early,,,night,9|hours,24,15,17,,,|too much,TRUE,FALSE,FALSE,,,|
     show code,cents,,item,code,count,price|A,250,,pens,A,10,~=VLOOKUP(E2,$A$2:$B$4,2)*F2~|B,1200,,book,B,2,~=VLOOKUP(E3,$A$2:$B$4,2)*F3~|C,90,,lamp,X,1,~=IFERROR(VLOOKUP(E4,$A$2:$B$4,2)*F4,~~no price~~)~|,,,sum,,,=SUM(G2:G4)|,,,discount,,,~=IF(G5>4000,G5/10,0)~|,,,net,,,=G5-G6|,,,shipping,,,~=IF(G9>5000,0,490)~|,,,total,,,=G7+G8|,,,per piece,,,=G9/SUM(F2:F4)|=>0 code,cents,,item,code,count,price|A,250,,pens,A,10,2500|B,1200,,book,B,2,2400|C,90,,lamp,X,1,no price|,,,sum,,,4900|,,,discount,,,490|,,,net,,,4410|,,,shipping,,,#CYCLE(2)!|,,,total,,,#CYCLE(2)!|,,,per piece,,,#TOCYCLE!|
+    show who,paid,share,owes,does,in words|Ann,12000,=B$5/COUNT(B$2:B$4),=C2-B2,~=IF(D2<0,~~gets~~,~~pays~~)~,~=A2&~~ ~~&E2&~~ ~~&ABS(D2)~|Bob,4500,=B$5/COUNT(B$2:B$4),=C3-B3,~=IF(D3<0,~~gets~~,~~pays~~)~,~=A3&~~ ~~&E3&~~ ~~&ABS(D3)~|Cyd,0,=B$5/COUNT(B$2:B$4),=C4-B4,~=IF(D4<0,~~gets~~,~~pays~~)~,~=A4&~~ ~~&E4&~~ ~~&ABS(D4)~|sum,=SUM(B2:B4)|=>0 who,paid,share,owes,does,in words|Ann,12000,5500,-6500,gets,Ann gets 6500|Bob,4500,5500,1000,pays,Bob pays 1000|Cyd,0,5500,5500,pays,Cyd pays 5500|sum,16500,,,,|
+    show 10||30|=A1+A3|=>0 10|30|#CYCLE(1)!|
 ";
 
 /// Files and scripts, and what `edit` makes of them. A row has the name of each file with its bytes in braces behind the
@@ -104,6 +123,8 @@ const SCRIPTS: &str = "
     edit s.csv{1,=A1+1|}# nothing is recalculated before it is asked for||set A1 4|clear B1|set B1 =A1*2|recalc|recalc|=>0 recalculated 1|recalculated 0|
     edit s.csv{1,=A1+1|}print|recalc|set A1 2|show B1|recalc=>0 1,2|recalculated 0|s!B1,3|recalculated 0|
     edit s.csv{1,=A1+1`|}recalc`|# \u{E4}|show B1`|=>0 recalculated 1|s!B1,2|
+    edit trip.csv{who,paid,share,owes,does,in words|Ann,12000,=B$5/COUNT(B$2:B$4),=C2-B2,~=IF(D2<0,~~gets~~,~~pays~~)~,~=A2&~~ ~~&E2&~~ ~~&ABS(D2)~|Bob,4500,=B$5/COUNT(B$2:B$4),=C3-B3,~=IF(D3<0,~~gets~~,~~pays~~)~,~=A3&~~ ~~&E3&~~ ~~&ABS(D3)~|Cyd,0,=B$5/COUNT(B$2:B$4),=C4-B4,~=IF(D4<0,~~gets~~,~~pays~~)~,~=A4&~~ ~~&E4&~~ ~~&ABS(D4)~|sum,=SUM(B2:B4)|}# Bob paid for the boat, too, and wants his whole name there.|recalc|set B3 13500|recalc|set A3 Robert|recalc|show F3|print|=>0 recalculated 13|recalculated 13|recalculated 1|trip!F3,Robert gets 5000|who,paid,share,owes,does,in words|Ann,12000,8500,-3500,gets,Ann gets 3500|Robert,13500,8500,-5000,gets,Robert gets 5000|Cyd,0,8500,8500,pays,Cyd pays 8500|sum,25500,,,,|
+    edit prices.csv{code,cents,,item,code,count,price|A,250,,pens,A,10,~=VLOOKUP(E2,$A$2:$B$4,2)*F2~|B,1200,,book,B,2,~=VLOOKUP(E3,$A$2:$B$4,2)*F3~|C,90,,lamp,X,1,~=IFERROR(VLOOKUP(E4,$A$2:$B$4,2)*F4,~~no price~~)~|,,,sum,,,=SUM(G2:G4)|,,,discount,,,~=IF(G5>4000,G5/10,0)~|,,,net,,,=G5-G6|,,,shipping,,,~=IF(G9>5000,0,490)~|,,,total,,,=G7+G8|,,,per piece,,,=G9/SUM(F2:F4)|}# Which cells ask for one another?|cycles|# Shipping is free from a net price on, not from a total on.|set G8 =IF(G7>5000,0,490)|cycles|print|=>0 cycles 1|prices!G8,prices!G9|cycles 0|code,cents,,item,code,count,price|A,250,,pens,A,10,2500|B,1200,,book,B,2,2400|C,90,,lamp,X,1,no price|,,,sum,,,4900|,,,discount,,,490|,,,net,,,4410|,,,shipping,,,490|,,,total,,,4900|,,,per piece,,,376|
 ";
 
 /// Runs on several files.
@@ -122,6 +143,7 @@ const SEVERAL_FILES: &str = "
     edit a.csv{1|}b.csv{1|1,=2+,=|}recalc|=>3 refused b!B2 at 3: F2|
     edit a.csv{1|}b.csv{1|2,%|}recalc|=>3 refused b row 2 column 2: S1|
     edit a.csv{1|}my plan.csv{=C1:D1|}recalc|=>3 refused 'my plan'!A1 at 3: F2|
+    edit order.csv{code,count,name,price|A,10,~=VLOOKUP(A2,goods!$A$2:$C$4,2,FALSE)~,~=VLOOKUP(A2,goods!$A$2:$C$4,3,FALSE)*B2~|B,2,~=VLOOKUP(A3,goods!$A$2:$C$4,2,FALSE)~,~=VLOOKUP(A3,goods!$A$2:$C$4,3,FALSE)*B3~|sum,,,=SUM(D2:D3)|}goods.csv{code,name,cents|A,pens,250|B,book,1200|C,lamp,9000|}# Pens get dearer.|print|set goods!C2 300|show D4|print goods|=>0 code,count,name,price|A,10,pens,2500|B,2,book,2400|sum,,,4900|order!D4,5400|code,name,cents|A,pens,300|B,book,1200|C,lamp,9000|
 ";
 
 /// Scripts with a line that is refused.
@@ -145,6 +167,19 @@ const REFUSED_SCRIPTS: &str = "
     edit s.csv{1|}set A1 =t!A1|=>4 refused line 1 at 1: F9|
 ";
 
+/// Sheets that are saved. A formula that is short where it is set is too long where it is copied to.
+const SAVES: &str = "
+    edit s.csv{7,=$A$1+A1|8|}copy B1 B2|set A3 '=x|save|=>0 7,=$A$1+A1|8,=$A$1+A2|'=x,|
+    edit s.csv{1|}set A1 1,5|set B1 'TRUE|set C1 '|save|=>0 ~1,5~,'TRUE,'|
+    edit s.csv{1|}set B1 =A1+A1+A1+A1+A1+A1+A1+A1+A1+A1+A1+A1+A1+A1+A1+A1+A1+A1+A1+A1+A1+A1+A1+A1+A1+A1+A1+A1+A1+A1+A1+A1+A1+A1+A1+A1+A1+A1+A1+A1+A1+A1+A1+A1+A1+A1+A1+A1+A1+A1+A1+A1+A1+A1+A1+A1+A1+A1+A1+A1+A1+A1+A1+A1+A1+A1+A1+A1+A1+A1+A1+A1+A1+A1+A1+A1+A1+A1+A1+A1+A1+A1+A1+A1+A1+A1+A1+A1+A1+A1+A1+A1+A1+A1+A1+A1+A1+A1+A1+A1+A1+A1+A1+A1+A1+A1+A1+A1+A1+A1+A1+A1+A1+A1+A1+A1+A1+A1+A1+A1+A1+A1+A1+A1+A1+A1+A1+A1+A1+A1+A1+A1+A1+A1+A1+A1+A1+A1+A1+A1+A1+A1+A1+A1+A1+A1+A1+A1+A1+A1+A1+A1+A1+A1+A1+A1+A1+A1+A1+A1+A1+A1+A1+A1+A1+A1+A1+A1+A1+A1+A1+A1+A1+A1+A1+A1+A1+A1+A1+A1+A1+A1+A1+A1+A1+A1+A1+A1+A1+A1+A1+A1+A1+A1+A1+A1+A1+A1+A1+A1+A1+A1+A1+A1+A1+A1+A1+A1+A1+A1+A1+A1+A1+A1+A1+A1+A1+A1+A1+A1+A1+A1+A1+A1+A1+A1+A1+A1+A1+A1+A1+A1+A1+A1+A1+A1+A1+A1+A1+A1+A1+A1+A1+A1+A1+A1+A1+A1+A1+A1+A1+A1+A1+A1+A1+A1|save|copy B1 B10000|save|=>4 1,=A1+A1+A1+A1+A1+A1+A1+A1+A1+A1+A1+A1+A1+A1+A1+A1+A1+A1+A1+A1+A1+A1+A1+A1+A1+A1+A1+A1+A1+A1+A1+A1+A1+A1+A1+A1+A1+A1+A1+A1+A1+A1+A1+A1+A1+A1+A1+A1+A1+A1+A1+A1+A1+A1+A1+A1+A1+A1+A1+A1+A1+A1+A1+A1+A1+A1+A1+A1+A1+A1+A1+A1+A1+A1+A1+A1+A1+A1+A1+A1+A1+A1+A1+A1+A1+A1+A1+A1+A1+A1+A1+A1+A1+A1+A1+A1+A1+A1+A1+A1+A1+A1+A1+A1+A1+A1+A1+A1+A1+A1+A1+A1+A1+A1+A1+A1+A1+A1+A1+A1+A1+A1+A1+A1+A1+A1+A1+A1+A1+A1+A1+A1+A1+A1+A1+A1+A1+A1+A1+A1+A1+A1+A1+A1+A1+A1+A1+A1+A1+A1+A1+A1+A1+A1+A1+A1+A1+A1+A1+A1+A1+A1+A1+A1+A1+A1+A1+A1+A1+A1+A1+A1+A1+A1+A1+A1+A1+A1+A1+A1+A1+A1+A1+A1+A1+A1+A1+A1+A1+A1+A1+A1+A1+A1+A1+A1+A1+A1+A1+A1+A1+A1+A1+A1+A1+A1+A1+A1+A1+A1+A1+A1+A1+A1+A1+A1+A1+A1+A1+A1+A1+A1+A1+A1+A1+A1+A1+A1+A1+A1+A1+A1+A1+A1+A1+A1+A1+A1+A1+A1+A1+A1+A1+A1+A1+A1+A1+A1+A1+A1+A1+A1+A1+A1+A1+A1|refused line 4: E8|
+    edit a.csv{1|}b.csv{2|}set B1 =A1+A1+A1+A1+A1+A1+A1+A1+A1+A1+A1+A1+A1+A1+A1+A1+A1+A1+A1+A1+A1+A1+A1+A1+A1+A1+A1+A1+A1+A1+A1+A1+A1+A1+A1+A1+A1+A1+A1+A1+A1+A1+A1+A1+A1+A1+A1+A1+A1+A1+A1+A1+A1+A1+A1+A1+A1+A1+A1+A1+A1+A1+A1+A1+A1+A1+A1+A1+A1+A1+A1+A1+A1+A1+A1+A1+A1+A1+A1+A1+A1+A1+A1+A1+A1+A1+A1+A1+A1+A1+A1+A1+A1+A1+A1+A1+A1+A1+A1+A1+A1+A1+A1+A1+A1+A1+A1+A1+A1+A1+A1+A1+A1+A1+A1+A1+A1+A1+A1+A1+A1+A1+A1+A1+A1+A1+A1+A1+A1+A1+A1+A1+A1+A1+A1+A1+A1+A1+A1+A1+A1+A1+A1+A1+A1+A1+A1+A1+A1+A1+A1+A1+A1+A1+A1+A1+A1+A1+A1+A1+A1+A1+A1+A1+A1+A1+A1+A1+A1+A1+A1+A1+A1+A1+A1+A1+A1+A1+A1+A1+A1+A1+A1+A1+A1+A1+A1+A1+A1+A1+A1+A1+A1+A1+A1+A1+A1+A1+A1+A1+A1+A1+A1+A1+A1+A1+A1+A1+A1+A1+A1+A1+A1+A1+A1+A1+A1+A1+A1+A1+A1+A1+A1+A1+A1+A1+A1+A1+A1+A1+A1+A1+A1+A1+A1+A1+A1+A1+A1+A1+A1+A1+A1+A1+A1+A1+A1+A1+A1+A1+A1+A1+A1+A1+A1+A1|copy B1 B10000|save b|save a|=>4 2|refused line 4: E8|
+    edit e.csv{}save|set A2 1|save|=>0 ~~|1|
+    edit a.csv{1|}b.csv{=a!A1|}save b|save a|save|print b|=>0 =a!A1|1|1|1|
+    edit s.csv{1,=A1+1|}recalc|set A1 4|save|recalc|save|=>0 recalculated 1|4,=A1+1|recalculated 1|4,=A1+1|
+    edit s.csv{1|}save t|=>4 refused line 1: E2|
+    edit budget.csv{item,planned,spent,left,note|rent,80000,80000,=B2-C2,~=IF(D2<0,~~over~~,~~ok~~)~|food,40000,43250,=B3-C3,~=IF(D3<0,~~over~~,~~ok~~)~|bus,6000,4900,=B4-C4,~=IF(D4<0,~~over~~,~~ok~~)~|savings,15000,15000,=B5-C5,~=IF(D5<0,~~over~~,~~ok~~)~|sum,=SUM(B2:B5),=SUM(C2:C5),=SUM(D2:D5),~=IF(D6<0,~~over~~,~~ok~~)~|largest,=MAX(B2:B5),=MAX(C2:C5),,|percent for rent,=B2*100/B$6,=C2*100/C$6,,|}# Food was cheaper than planned, and the note says how much is left.|set C3 39500|set E2 =IF(D2<0,~over by ~&-D2,~left: ~&D2)|copy E2 E3:E6|save|=>0 item,planned,spent,left,note|rent,80000,80000,=B2-C2,~=IF(D2<0,~~over by ~~&-D2,~~left: ~~&D2)~|food,40000,39500,=B3-C3,~=IF(D3<0,~~over by ~~&-D3,~~left: ~~&D3)~|bus,6000,4900,=B4-C4,~=IF(D4<0,~~over by ~~&-D4,~~left: ~~&D4)~|savings,15000,15000,=B5-C5,~=IF(D5<0,~~over by ~~&-D5,~~left: ~~&D5)~|sum,=SUM(B2:B5),=SUM(C2:C5),=SUM(D2:D5),~=IF(D6<0,~~over by ~~&-D6,~~left: ~~&D6)~|largest,=MAX(B2:B5),=MAX(C2:C5),,|percent for rent,=B2*100/B$6,=C2*100/C$6,,|
+";
+
 /// Sheets whose recalculation is traced. A row has its words, a colon and the sheet.
 const TRACES: &str = "
     trace --workers 2 --order 0,1,0,1,0,1,0,1,0,1,0,1,0,1,0,1:=B1,=A1|=>0 0 look A1 stale|1 look B1 stale|0 claim A1 won|1 claim B1 won|0 look B1 claimed 1|1 look A1 claimed 0|0 take 0|1 take 1|0 value 0 2|1 value 1 2|0 tag 0 6|1 tag 1 6|0 publish B1 0 won|1 publish A1 1 won|0 take 2|1 take 3|0 value 2 2|0 tag 2 6|0 publish A1 2 lost 1 0 1|0 finished|1 value 3 2|1 tag 3 6|1 publish B1 3 lost 0 1 0|1 finished|result|#CYCLE(2)!,#CYCLE(2)!|
@@ -154,6 +189,7 @@ const TRACES: &str = "
     trace --workers 2 --order 0,0 --stop 0,1:=B1,=A1|=>2 refused words|
     trace --workers 2 --order 0,0 --stop 2:=B1,=A1|=>2 refused words|
     trace --workers 2 --order 0,0 --stop 0,0:=B1,=A1|=>2 refused words|
+    trace --workers 1:~=~~a~~&~~b~~~=>0 0 look A1 stale|0 claim A1 won|0 take 0|0 value 0 2|0 value 0 25185|0 value 0 0|0 value 0 0|0 value 0 0|0 value 0 0|0 value 0 0|0 tag 0 8|0 publish A1 0 won|0 finished|result|ab|
     trace:=>0 result|
     trace --workers 3:7,x|=>0 result|7,x|
     trace --workers 2 --order 0,0,1,1,1,1,1,1,1,1,1,1,1,1,1:=B1+1,=2|=>0 0 look A1 stale|0 claim A1 won|1 look B1 stale|1 claim B1 won|1 take 0|1 value 0 2|1 value 0 0|1 tag 0 1|1 publish B1 0 won|1 look A1 claimed 0|1 take 1|1 value 1 3|1 value 1 0|1 tag 1 1|1 publish A1 1 won|1 finished|0 look B1 done 1 1 0|0 load-tag 0 1|0 load-value 0 2|0 load-value 0 0|0 take 2|0 value 2 3|0 value 2 0|0 tag 2 1|0 publish A1 2 lost 1 0 1|0 finished|result|3,2|
@@ -169,9 +205,13 @@ const DEMOS: &str = "
     demo --workers 1 2000=>0 cells 2000 formulas 1750|recalculated 1750 values 1252 errors 0 cycle 166 tocycle 332 sum 113690180|recalculated 1252 values 1249 errors 0 cycle 167 tocycle 334 sum 113691512|
 ";
 
-/// Columns of sums, chains of 3,000 cells, a loop of 1,000, and a sheet that has too many cells.
-const LARGE: &str = "
+/// Many sums of a large range.
+const SUMS: &str = "
     edit s.csv{1|}set B1 =SUM(A$1:A$65536)|copy B1 B2:B400|recalc|show B400|set A65536 2|recalc|show B1|=>0 recalculated 400|s!B400,1|recalculated 400|s!B1,3|
+";
+
+/// Chains of 3,000 cells, a loop of 1,000, and a sheet that has too many cells.
+const LARGE: &str = "
     edit s.csv{1|}copy A1 A1:A65536|copy A1 B1:B65536|copy A1 C1:C65536|copy A1 D1:D65536|=>4 refused line 4: E4|
     edit e.csv{}set A1 1|set A2 =A1+1|copy A2 A3:A3000|recalc|show A3000|set A1 5|recalc|show A3000|=>0 recalculated 2999|e!A3000,3000|recalculated 2999|e!A3000,3004|
     edit e.csv{}set A1 =A2+1|copy A1 A2:A2999|set A3000 1|recalc|show A1|set A3000 5|recalc|show A1|=>0 recalculated 2999|e!A1,3000|recalculated 2999|e!A1,3004|
@@ -329,16 +369,18 @@ fn expect_rows<R: Abort + Threads + Sync>(
 #[test]
 fn shows_sheets_and_refuses_others(rt: HostRuntime) -> Result<(), Fail> {
     assert_eq!(rt; expect_rows(&rt, rt.alloc(), EACH, SHEETS)?, 30);
-    assert_eq!(rt; expect_rows(&rt, rt.alloc(), EACH, REFUSED_SHEETS)?, 15);
-    assert_eq!(rt; expect_rows(&rt, rt.alloc(), EACH, EXAMPLES)?, 3);
+    assert_eq!(rt; expect_rows(&rt, rt.alloc(), EACH, COMPUTED)?, 11);
+    assert_eq!(rt; expect_rows(&rt, rt.alloc(), EACH, REFUSED_SHEETS)?, 17);
+    assert_eq!(rt; expect_rows(&rt, rt.alloc(), EACH, EXAMPLES)?, 5);
     Ok(())
 }
 
 #[test]
 fn edits_by_scripts_and_refuses_others(rt: HostRuntime) -> Result<(), Fail> {
-    assert_eq!(rt; expect_rows(&rt, rt.alloc(), EACH, SCRIPTS)?, 18);
-    assert_eq!(rt; expect_rows(&rt, rt.alloc(), EACH, SEVERAL_FILES)?, 14);
+    assert_eq!(rt; expect_rows(&rt, rt.alloc(), EACH, SCRIPTS)?, 20);
+    assert_eq!(rt; expect_rows(&rt, rt.alloc(), EACH, SEVERAL_FILES)?, 15);
     assert_eq!(rt; expect_rows(&rt, rt.alloc(), EACH, REFUSED_SCRIPTS)?, 17);
+    assert_eq!(rt; expect_rows(&rt, rt.alloc(), EACH, SAVES)?, 9);
     Ok(())
 }
 
@@ -395,7 +437,13 @@ fn expect_round<R: Abort + Threads + Sync>(rt: &R, alloc: Global) -> Result<(), 
 fn follows_long_chains_and_loops(rt: HostRuntime) -> Result<(), Fail> {
     expect_columns(&rt, rt.alloc())?;
     expect_round(&rt, rt.alloc())?;
-    assert_eq!(rt; expect_rows(&rt, rt.alloc(), FEW, LARGE)?, 5);
+    assert_eq!(rt; expect_rows(&rt, rt.alloc(), FEW, LARGE)?, 4);
+    Ok(())
+}
+
+#[test]
+fn sums_large_ranges(rt: HostRuntime) -> Result<(), Fail> {
+    assert_eq!(rt; expect_rows(&rt, rt.alloc(), FEW, SUMS)?, 1);
     Ok(())
 }
 
@@ -512,7 +560,7 @@ fn expect_inputs<R: Abort + Threads + Sync>(
 
 #[test]
 fn traces_steps_and_generates_books(rt: HostRuntime) -> Result<(), Fail> {
-    assert_eq!(rt; expect_inputs(&rt, rt.alloc(), TRACES)?, 12);
+    assert_eq!(rt; expect_inputs(&rt, rt.alloc(), TRACES)?, 13);
     assert_eq!(rt; expect_inputs(&rt, rt.alloc(), DEMOS)?, 4);
     Ok(())
 }

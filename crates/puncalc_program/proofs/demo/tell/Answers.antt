@@ -6,7 +6,6 @@ use Rattle.puncalc_program.specs.Run.{Answers}
 use Rattle.puncalc_program.specs.Script.{recalculated}
 use Rattle.puncalc_program.specs.Writing.{sunk}
 use Rattle.puncalc_program.proofs.Demos.{both_written, first_stops, second_stops, stops_behind}
-use Rattle.puncalc_program.proofs.Ends.{writing_stops}
 use Rattle.puncalc_program.proofs.demo.tell.Goals as goal
 
 pub returns-in_err-write_size-clause-answers : goal.returns-in_err-write_size-clause-answers

@@ -1,4 +1,4 @@
-use Rattle.std.proofs.Common.{None, Ok, subst}
+use Rattle.std.proofs.Common.{Ok, subst}
 use Rattle.std.proofs.lemmas.Result.{err_from_is_err_and}
 use Rattle.puncalc_program.specs.Demo.{last_part, with_one}
 use Rattle.puncalc_program.specs.Desks.{Changes, KeptIs}

@@ -1,4 +1,4 @@
-use Rattle.std.proofs.Common.{◌≡◌, map, drop, length, ◌+◌, string_bytes, ap, refl, sym, ◌∙◌, subst, arith}
+use Rattle.std.proofs.Common.{◌≡◌, map, drop, ◌+◌, string_bytes, ap, refl, sym, ◌∙◌, subst, arith}
 use Rattle.std.proofs.lemmas.Result.{err_from_is_err_and}
 use Rattle.formula_grammar.specs.Reading.{IsReading}
 use Rattle.sheet_loading.specs.Loaded.{LoadedSheets}

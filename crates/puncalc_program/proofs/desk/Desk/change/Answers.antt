@@ -2,7 +2,7 @@ use Rattle.std.proofs.Common.{[], sym, subst}
 use Rattle.formula_grammar.specs.Reading.{IsReading}
 use Rattle.recalculation.specs.Edits.{IsEditOf}
 use Rattle.workbook_core.specs.Books.{IsWorkbook}
-use Rattle.puncalc_program.specs.Desks.{Changes, DeskSeen, edit_answer, edit_turn, setup_kept, shared_of}
+use Rattle.puncalc_program.specs.Desks.{Changes, DeskSeen, edit_turn, setup_kept, shared_of}
 use Rattle.puncalc_program.proofs.Changing.{edit_changes, shares_apart, standing}
 use Rattle.puncalc_program.proofs.desk.Desk.change.Goals as goal
 

@@ -1,4 +1,4 @@
-use Rattle.std.proofs.Common.{None, Some, Ok, ap, subst, ◌∙◌}
+use Rattle.std.proofs.Common.{Ok, ap, subst, ◌∙◌}
 use Rattle.edit_script.specs.declared.line.Line.{Line}
 use Rattle.puncalc_program.specs.Demo.{demo_cell, demo_field}
 use Rattle.puncalc_program.specs.Desks.{Changes}

@@ -1,4 +1,4 @@
-use Rattle.std.proofs.Common.{◌≡◌, ◌<◌, map, ap, sym, subst, ◌∙◌, arith}
+use Rattle.std.proofs.Common.{map, subst, ◌∙◌}
 use Rattle.std.proofs.lemmas.Result.{err_from_is_err_and}
 use Rattle.cell_values.specs.Areas.{numbers_from}
 use Rattle.puncalc_program.specs.Sheets.{sheet_row}
