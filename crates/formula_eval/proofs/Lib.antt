@@ -6,5 +6,6 @@ pub mod Begins
 pub mod Ranges
 pub mod Searches
 pub mod Turns
+pub mod Visits
 pub mod Lines
 pub mod Client

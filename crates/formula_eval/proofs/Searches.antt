@@ -285,7 +285,7 @@ choose_outside p ts at id limit d v n fs c m e h k = ends p ts at (tree_at p id)
     go (pos (suc k)) h = drop_first ts at k (arguments_of (tree_at p id)) ∙ far k (nth (k + 1) (arguments_of (tree_at p id))) (beyond k h) refl
 
 -- the number of a cell of a line is small
-line_few : (f : Fun) (r : Area) → IsArea r → length (line_of f r) ≤ 65536
+pub line_few : (f : Fun) (r : Area) → IsArea r → length (line_of f r) ≤ 65536
 unfolding height width
 line_few Fun.HLookup r a = (let l : length (row_of r 0) ≡ width r = length-first_row r in omega (arith, a.left_from, a.left_to, a.right_to))
 line_few f r a = (let l : length (column_of r 0) ≡ height r = length-column r in omega (arith, a.top_from, a.top_to, a.bottom_to))

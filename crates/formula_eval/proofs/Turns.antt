@@ -1,5 +1,5 @@
 -- One turn of the machine, and turns one after another.
-use Rattle.std.proofs.Common.{◌≡◌, ℕ, suc, ◌+◌, ◌<◌, ◌≤◌, Err, List, [], ◌∷◌, length, refl, sym, ap, ◌∙◌, subst, arith}
+use Rattle.std.proofs.Common.{◌≡◌, ℕ, suc, ◌+◌, ◌<◌, ◌≤◌, List, [], ◌∷◌, length, refl, sym, ap, ◌∙◌, subst, arith}
 use Rattle.cell_values.specs.declared.address.Addr.{Addr}
 use Rattle.cell_values.specs.declared.values.Value.{Value}
 use Rattle.demand_spec.specs.declared.Asked.{Asked}
@@ -16,8 +16,8 @@ use Rattle.formula_eval.specs.Stacks.{IsShut, HasNoMark, below, dropped}
 use Rattle.shared_expressions.specs.declared.nodes.ExprId.{ExprId}
 use Rattle.cell_values.specs.Values.{IsValueOf}
 use Rattle.shared_expressions.specs.Trees.{Trees, tree_at, depth}
-use Rattle.formula_eval.specs.Machine.{unwind, meaning, AllFit, StepFits, Fits, Holds, IsMeant, WorkFits, Starts, GoesOn}
-use Rattle.formula_eval.specs.Evaluations.{Reaches, here, looked, more, demanded, Advances, Ends, Turns, Stands, Answered, Comes, rest_of, HasOpen}
+use Rattle.formula_eval.specs.Machine.{unwind, meaning, AllFit, StepFits, Fits, Holds, IsMeant, Starts, GoesOn}
+use Rattle.formula_eval.specs.Evaluations.{Reaches, here, looked, more, demanded, Advances, Along, Stands, Answered, Comes, rest_of, HasOpen}
 
 pub reaches_on : (l : Addr → Asked) (p q r : Plan) → Reaches l p q → Reaches l q r → Reaches l p r
 reaches_on l p q r (here _) s = s
@@ -65,53 +65,69 @@ advance_look p ts at l a v fs n n' e m c = record {
 }
 
 -- no frame is left
-pub give_ends : (p : Trees) (ts : Texts) (at : Addr) (v : Value) (fs fs' : List Frame) (n : ℕ) → IsShut fs → fs' ≡ fs → Ends p ts at (Step.Give v) fs v fs' n n
-give_ends p ts at v [] fs' n h e = record { gives = refl; done = e; looks = refl }
-give_ends p ts at v (Opened a x ∷ fs) fs' n h e = record { gives = refl; done = e; looks = refl }
-give_ends p ts at v (At id w ∷ fs) fs' n h e = absurd h
-
--- turns after turns
-pub record Along (p : Trees) (ts : Texts) (at : Addr) (l : Addr → Asked) (s : Step) (fs : List Frame) (s' : Step) (fs' : List Frame) (n n' : ℕ) : Type 0 where
-  pub reaches : Reaches l (meaning p ts at s fs) (meaning p ts at s' fs')
-  pub fits : (limit : ℕ) → Fits p ts at limit s fs → Fits p ts at limit s' fs'
-  pub beneath : below fs' ≡ below fs
-  pub looks : n' + length (demanded l (meaning p ts at s' fs')) ≤ n + length (demanded l (meaning p ts at s fs))
+pub give_ends : (p : Trees) (ts : Texts) (at : Addr) (l : Addr → Asked) (v : Value) (fs fs' : List Frame) (n : ℕ) → IsShut fs → fs' ≡ fs → Comes p ts at l (Step.Give v) fs (Val v) fs' n n
+give_ends p ts at l v [] fs' n h e = record { answer = λ limit f. (refl, e); looks = omega arith }
+give_ends p ts at l v (Opened a x ∷ fs) fs' n h e = record { answer = λ limit f. (refl, e); looks = omega arith }
+give_ends p ts at l v (At id w ∷ fs) fs' n h e = absurd h
 
 pub along_none : (p : Trees) (ts : Texts) (at : Addr) (l : Addr → Asked) (s : Step) (fs : List Frame) (n : ℕ) → Along p ts at l s fs s fs n n
-along_none p ts at l s fs n = record { reaches = here (meaning p ts at s fs); fits = λ limit f. f; beneath = refl; looks = omega arith }
+along_none p ts at l s fs n = record { reaches = here (meaning p ts at s fs); less = omega arith; fits = λ limit f. f; beneath = refl; looks = omega arith }
 
-pub along_more : (p : Trees) (ts : Texts) (at : Addr) (l : Addr → Asked) (s : Step) (fs : List Frame) (s' : Step) (fs' : List Frame) (t : Step) (gs : List Frame) (n n' m : ℕ) → Along p ts at l s fs s' fs' n n' → Advances p ts at l s' fs' t gs n' m → Along p ts at l s fs t gs n m
-along_more p ts at l s fs s' fs' t gs n n' m h g = record {
+-- a turn more goes on
+pub along_advances : (p : Trees) (ts : Texts) (at : Addr) (l : Addr → Asked) (s : Step) (fs : List Frame) (s' : Step) (fs' : List Frame) (t : Step) (gs : List Frame) (n n' m : ℕ) → Along p ts at l s fs s' fs' n n' → Advances p ts at l s' fs' t gs n' m → Advances p ts at l s fs t gs n m
+along_advances p ts at l s fs s' fs' t gs n n' m h g = record {
   reaches = reaches_on l (meaning p ts at s fs) (meaning p ts at s' fs') (meaning p ts at t gs) h.reaches g.reaches;
+  less = omega (arith, h.less, g.less);
   fits = λ limit f. g.fits limit (h.fits limit f);
   beneath = g.beneath ∙ h.beneath;
   looks = omega (arith, h.looks, g.looks);
 }
 
--- the end, with a value or at a missing cell
-pub along_ends : (p : Trees) (ts : Texts) (at : Addr) (l : Addr → Asked) (s : Step) (fs : List Frame) (s' : Step) (fs' : List Frame) (r : Asked) (gs : List Frame) (n n' m : ℕ) → Along p ts at l s fs s' fs' n n' → Turns p ts at l s' fs' (Err r) gs n' m → Comes p ts at l s fs r gs n m
-along_ends p ts at l s fs s' fs' (Val v) gs n n' m h g = record {
-  answer = λ limit f. (reaches_run l (meaning p ts at s fs) (meaning p ts at s' fs') h.reaches ∙ ap (run l) g.gives, g.done ∙ h.beneath);
-  looks = omega (arith, h.looks, g.looks);
-}
-along_ends p ts at l s fs s' fs' (Needs x) gs n n' m h g =
-    let same : meaning p ts at s' fs' ≡ Demand x (unwind p ts at fs') = ap (λ z. meaning p ts at z fs') g.look in
-    let come : Reaches l (meaning p ts at s fs) (Demand x (unwind p ts at fs')) = subst (Reaches l (meaning p ts at s fs)) same h.reaches in
-    let long : 1 ≤ length (demanded l (meaning p ts at s' fs')) = subst (λ z. 1 ≤ length (demanded l z)) (sym same) (omega arith) in
+pub along_more : (p : Trees) (ts : Texts) (at : Addr) (l : Addr → Asked) (s : Step) (fs : List Frame) (s' : Step) (fs' : List Frame) (t : Step) (gs : List Frame) (n n' m : ℕ) → Along p ts at l s fs s' fs' n n' → Advances p ts at l s' fs' t gs n' m → Along p ts at l s fs t gs n m
+along_more p ts at l s fs s' fs' t gs n n' m h g =
+    let a : Advances p ts at l s fs t gs n m = along_advances p ts at l s fs s' fs' t gs n n' m h g in
+    record { reaches = a.reaches; less = omega (arith, a.less); fits = a.fits; beneath = a.beneath; looks = a.looks }
+
+-- a missing cell
+pub along_stops : (p : Trees) (ts : Texts) (at : Addr) (l : Addr → Asked) (s : Step) (fs : List Frame) (x : Addr) (fs' gs : List Frame) (n n' m : ℕ) → Along p ts at l s fs (Step.Look x) fs' n n' → Needs x ≡ l x → gs ≡ Opened at x ∷ fs' → m ≤ n' + 1 → Comes p ts at l s fs (Needs x) gs n m
+along_stops p ts at l s fs x fs' gs n n' m h e top c =
+    let long : 1 ≤ length (demanded l (meaning p ts at (Step.Look x) fs')) = omega arith in
     record {
       answer = λ limit f. (
-        reaches_run l (meaning p ts at s fs) (Demand x (unwind p ts at fs')) come ∙ ap (λ z. after z (λ w. run l (unwind p ts at fs' w))) g.lacks,
-        g.lacks,
+        reaches_run l (meaning p ts at s fs) (Demand x (unwind p ts at fs')) h.reaches ∙ ap (λ z. after z (λ w. run l (unwind p ts at fs' w))) (sym e),
+        sym e,
         record {
           frames = fs';
-          top = g.marked;
+          top = top;
           beneath = h.beneath;
-          reaches = come;
-          fits = subst (λ z. Fits p ts at limit z fs') g.look (h.fits limit f);
+          reaches = h.reaches;
+          fits = h.fits limit f;
         },
       );
-      looks = omega (arith, h.looks, g.looks);
+      looks = omega (arith, h.looks, long);
     }
+
+-- what is left of a plan is answered as the plan
+answered_from : (p : Trees) (ts : Texts) (l : Addr → Asked) (limit : ℕ) (at : Addr) (q q' : Plan) (base : List Frame) (r : Asked) (fs : List Frame) → Reaches l q q' → Answered p ts l limit at q' base r fs → Answered p ts l limit at q base r fs
+answered_from p ts l limit at q q' base (Val v) fs h a = (reaches_run l q q' h ∙ a.0, a.1)
+answered_from p ts l limit at q q' base (Needs x) fs h a = (
+  reaches_run l q q' h ∙ a.0,
+  a.1,
+  record {
+    frames = a.2.frames;
+    top = a.2.top;
+    beneath = a.2.beneath;
+    reaches = reaches_on l q q' (Demand x (unwind p ts at a.2.frames)) h a.2.reaches;
+    fits = a.2.fits;
+  },
+)
+
+-- turns that come to an end
+pub along_comes : (p : Trees) (ts : Texts) (at : Addr) (l : Addr → Asked) (s : Step) (fs : List Frame) (s' : Step) (fs' : List Frame) (r : Asked) (gs : List Frame) (n n' m : ℕ) → Along p ts at l s fs s' fs' n n' → Comes p ts at l s' fs' r gs n' m → Comes p ts at l s fs r gs n m
+along_comes p ts at l s fs s' fs' r gs n n' m h g = record {
+  answer = λ limit f. subst (λ z. Answered p ts l limit at (meaning p ts at s fs) z r gs) h.beneath (answered_from p ts l limit at (meaning p ts at s fs) (meaning p ts at s' fs') (below fs') r gs h.reaches (g.answer limit (h.fits limit f)));
+  looks = omega (arith, h.looks, g.looks);
+}
 
 and_then_give : (p : Plan) → and_then p Give ≡ p
 and_then_give (Give v) = refl
@@ -146,21 +162,6 @@ begun p ts at l id fs r fs' n n' room h m t g =
 
 pub begun_looks : (p : Trees) (ts : Texts) (at : Addr) (l : Addr → Asked) (id : ExprId) (fs : List Frame) (r : Asked) (fs' : List Frame) (n n' : ℕ) → IsShut fs → Comes p ts at l (Step.Eval id) fs r fs' n n' → n' ≤ n + length (demanded l (plan ts at (tree_at p id)))
 begun_looks p ts at l id fs r fs' n n' h g = subst (λ z. n' ≤ n + length (demanded l z)) (shut_eval p ts at fs (plan ts at (tree_at p id)) h) g.looks
-
--- what is left of a plan is answered as the plan
-answered_from : (p : Trees) (ts : Texts) (l : Addr → Asked) (limit : ℕ) (at : Addr) (q q' : Plan) (base : List Frame) (r : Asked) (fs : List Frame) → Reaches l q q' → Answered p ts l limit at q' base r fs → Answered p ts l limit at q base r fs
-answered_from p ts l limit at q q' base (Val v) fs h a = (reaches_run l q q' h ∙ a.0, a.1)
-answered_from p ts l limit at q q' base (Needs x) fs h a = (
-  reaches_run l q q' h ∙ a.0,
-  a.1,
-  record {
-    frames = a.2.frames;
-    top = a.2.top;
-    beneath = a.2.beneath;
-    reaches = reaches_on l q q' (Demand x (unwind p ts at a.2.frames)) h a.2.reaches;
-    fits = a.2.fits;
-  },
-)
 
 -- taken up again at the cell that it needs
 pub taken_up : (p : Trees) (ts : Texts) (l : Addr → Asked) (limit : ℕ) (at : Addr) (q : Plan) (x : Addr) (fs base : List Frame) (at' x' : Addr) (gs : List Frame) (r : Asked) (fs' : List Frame) → fs ≡ Opened at' x' ∷ gs → Stands p ts l limit at q x fs base → ((limit : ℕ) → Fits p ts at' limit (Step.Look x') gs → Answered p ts l limit at' (meaning p ts at' (Step.Look x') gs) (below gs) r fs') → Answered p ts l limit at q base r fs'
@@ -218,13 +219,8 @@ fits_eval p ts at limit s fs id f e = (subst (λ z. StepFits p ts limit z fs) e 
 pub fits_look : (p : Trees) (ts : Texts) (at : Addr) (limit : ℕ) (s : Step) (fs : List Frame) (a : Addr) → Fits p ts at limit s fs → s ≡ Step.Look a → length fs < limit
 fits_look p ts at limit s fs a f e = subst (λ z. StepFits p ts limit z fs) e f.step
 
-pub fits_value : (p : Trees) (ts : Texts) (at : Addr) (limit : ℕ) (s : Step) (fs : List Frame) (v : Value) → Fits p ts at limit s fs → s ≡ Step.Give v → IsValueOf ts v
-fits_value p ts at limit s fs v f e = subst (λ z. StepFits p ts limit z fs) e f.step
-
-pub fits_top : (p : Trees) (ts : Texts) (at : Addr) (limit room : ℕ) (s : Step) (fs gs : List Frame) (id : ExprId) (w : Work) → Fits p ts at limit s fs → fs ≡ At id w ∷ gs → room ≡ limit → Holds room (length gs) (tree_at p id) × WorkFits ts at (tree_at p id) w
-fits_top p ts at limit room s fs gs id w f e r =
-    let top : AllFit p ts at limit (At id w ∷ gs) = subst (AllFit p ts at limit) e f.frames in
-    (subst (λ z. Holds z (length gs) (tree_at p id)) (sym r) top.0, top.2)
+pub fits_given : (p : Trees) (ts : Texts) (at : Addr) (limit room : ℕ) (s : Step) (fs gs : List Frame) (id : ExprId) (w : Work) (v : Value) → Fits p ts at limit s fs → s ≡ Step.Give v → fs ≡ At id w ∷ gs → room ≡ limit → Fits p ts at room (Step.Give v) (At id w ∷ gs)
+fits_given p ts at limit room s fs gs id w v f e top r = subst (λ z. Fits p ts at z (Step.Give v) (At id w ∷ gs)) (sym r) (subst (λ z. Fits p ts at limit (Step.Give v) z) top (subst (λ z. Fits p ts at limit z fs) e f))
 
 -- an expression on top of shut evaluations
 pub fits_shut : (p : Trees) (ts : Texts) (at : Addr) (limit : ℕ) (id : ExprId) (fs : List Frame) → IsShut fs → Holds limit (length fs) (tree_at p id) → IsMeant ts (tree_at p id) → Fits p ts at limit (Step.Eval id) fs

@@ -41,23 +41,13 @@ pub record Advances (p : Trees) (ts : Texts) (at : Addr) (l : Addr → Asked) (s
   pub beneath : below fs' ≡ below fs
   pub looks : n' + length (demanded l (meaning p ts at s' fs')) ≤ n + length (demanded l (meaning p ts at s fs))
 
--- a turn that ends with a value
-pub record Ends (p : Trees) (ts : Texts) (at : Addr) (s : Step) (fs : List Frame) (v : Value) (fs' : List Frame) (n n' : ℕ) : Type 0 where
-  pub gives : meaning p ts at s fs ≡ Give v
-  pub done : fs' ≡ below fs
-  pub looks : n' ≡ n
-
--- a turn that ends at a missing cell
-pub record Stops (at : Addr) (l : Addr → Asked) (s : Step) (fs : List Frame) (x : Addr) (fs' : List Frame) (n n' : ℕ) : Type 0 where
-  pub look : s ≡ Step.Look x
-  pub lacks : l x ≡ Needs x
-  pub marked : fs' ≡ Opened at x ∷ fs
-  pub looks : n' ≤ n + 1
-
-abbrev pub Turns : Trees → Texts → Addr → (Addr → Asked) → Step → List Frame → Result Step Asked → List Frame → ℕ → ℕ → Type 0
-Turns p ts at l s fs (Ok s') fs' n n' = Advances p ts at l s fs s' fs' n n'
-Turns p ts at l s fs (Err (Val v)) fs' n n' = Ends p ts at s fs v fs' n n'
-Turns p ts at l s fs (Err (Needs x)) fs' n n' = Stops at l s fs x fs' n n'
+-- turns after turns
+pub record Along (p : Trees) (ts : Texts) (at : Addr) (l : Addr → Asked) (s : Step) (fs : List Frame) (s' : Step) (fs' : List Frame) (n n' : ℕ) : Type 0 where
+  pub reaches : Reaches l (meaning p ts at s fs) (meaning p ts at s' fs')
+  pub less : left p at s' fs' ≤ left p at s fs
+  pub fits : (limit : ℕ) → Fits p ts at limit s fs → Fits p ts at limit s' fs'
+  pub beneath : below fs' ≡ below fs
+  pub looks : n' + length (demanded l (meaning p ts at s' fs')) ≤ n + length (demanded l (meaning p ts at s fs))
 
 -- the last open evaluation is what is left of the plan `q` of the cell `at`, and `base` lies below it
 pub record Stands (p : Trees) (ts : Texts) (l : Addr → Asked) (limit : ℕ) (at : Addr) (q : Plan) (x : Addr) (fs : List Frame) (base : List Frame) : Type 0 where
@@ -76,6 +66,11 @@ Answered p ts l limit at q base (Needs x) fs = (run l q ≡ Needs x) × (l x ≡
 pub record Comes (p : Trees) (ts : Texts) (at : Addr) (l : Addr → Asked) (s : Step) (fs : List Frame) (r : Asked) (fs' : List Frame) (n n' : ℕ) : Type 0 where
   pub answer : (limit : ℕ) → Fits p ts at limit s fs → Answered p ts l limit at (meaning p ts at s fs) (below fs) r fs'
   pub looks : n' ≤ n + length (demanded l (meaning p ts at s fs))
+
+-- a turn goes on to a step, or ends the run
+abbrev pub Turns : Trees → Texts → Addr → (Addr → Asked) → Step → List Frame → Result Step Asked → List Frame → ℕ → ℕ → Type 0
+Turns p ts at l s fs (Ok s') fs' n n' = Advances p ts at l s fs s' fs' n n'
+Turns p ts at l s fs (Err r) fs' n n' = Comes p ts at l s fs r fs' n n'
 
 -- there is an open evaluation, with room
 abbrev pub HasOpen : Trees → Texts → ℕ → List Frame → Type 0

@@ -4,7 +4,7 @@ use Rattle.cell_values.specs.declared.address.Addr.{Addr}
 use Rattle.cell_values.specs.declared.address.Area.{Area}
 use Rattle.cell_values.specs.declared.values.Code.{Code}
 use Rattle.cell_values.specs.declared.values.Value.{Value}
-use Rattle.cell_values.specs.Areas.{height, width, cell_of, row_of, column_of, walk}
+use Rattle.cell_values.specs.Areas.{height, width, cell_of, row_of, column_of, walk, IsArea}
 use Rattle.cell_values.specs.Texts.{Texts}
 use Rattle.formula_trees.specs.declared.tree.Fun.{Fun}
 use Rattle.formula_trees.specs.Expr.{Expr, Exprs, End, More}
@@ -24,12 +24,17 @@ use Rattle.demand_spec.specs.Plan.{Plan, Give, Demand, and_then}
 use Rattle.demand_spec.specs.Formula.{fails, unless_error, or_fail, if_number, if_cells, if_up_to, and_plan, or_plan, from_one, chosen, go_on, fold_cells, fold_plan, is_found, search_plan, operator_value, sign_value, plan, arguments}
 use Rattle.formula_trees.specs.TextNumbers.{TextsBelow}
 use Rattle.shared_expressions.specs.declared.nodes.ExprId.{ExprId}
-use Rattle.shared_expressions.specs.Trees.{Trees, tree_at, nth, depth}
+use Rattle.shared_expressions.specs.declared.nodes.Node.{Node}
+use Rattle.shared_expressions.specs.Trees.{Trees, tree_at, root_of, nth, child_of, depth}
 use Rattle.formula_eval.specs.declared.work.Work.{Work}
 use Rattle.formula_eval.specs.declared.work.Work.TheVariants.{First, Second, Third, Turn, Argument, Cell, Search, Lookup}
 use Rattle.formula_eval.specs.declared.work.Frame.{Frame}
 use Rattle.formula_eval.specs.declared.work.Frame.TheVariants.{At, Opened}
 use Rattle.formula_eval.specs.declared.work.Step.{Step}
+use Rattle.formula_eval.specs.declared.site.FoldWalk.{FoldWalk}
+use Rattle.formula_eval.specs.declared.site.SearchWalk.{SearchWalk}
+use Rattle.formula_eval.specs.declared.site.LookupWalk.{LookupWalk}
+use Rattle.formula_eval.specs.declared.site.Walk.{Walk}
 use Rattle.formula_eval.specs.Stacks.{below}
 
 -- an argument's plan, where there is one
@@ -537,3 +542,31 @@ abbrev pub Does : Plan → Step → Type 0
 Does q (Step.Eval c) = ⊥
 Does q (Step.Give v) = (q ≡ Give v) × (is_error v ≡ true)
 Does q (Step.Look a) = q ≡ Demand a Give
+
+-- a fold within a range, and the cells of the range
+pub record IsFoldWalk (p : Trees) (at : Addr) (on : FoldWalk) : Type 0 where
+  pub fold : fold_of (fun_of (tree_at p on.id)) ≡ Some on.kind
+  pub argument : Some (tree_at p on.child) ≡ child_of on.k (tree_at p on.id)
+  pub range : place_of at (tree_at p on.child) ≡ Cells on.area
+  pub within : IsArea on.area
+
+-- MATCH within its range
+pub record IsSearchWalk (p : Trees) (at : Addr) (on : SearchWalk) : Type 0 where
+  pub call : root_of (tree_at p on.id) ≡ Node.Call Fun.Match
+  pub argument : Some (tree_at p on.child) ≡ child_of 1 (tree_at p on.id)
+  pub range : place_of at (tree_at p on.child) ≡ Cells on.area
+  pub within : IsArea on.area
+
+-- a lookup within its line
+pub record IsLookupWalk (p : Trees) (at : Addr) (on : LookupWalk) : Type 0 where
+  pub call : root_of (tree_at p on.call.id) ≡ Node.Call on.call.fun
+  pub lookup : is_lookup on.call.fun ≡ true
+  pub range : range_of at (tree_at p on.call.id) ≡ Cells on.area
+  pub within : IsArea on.area
+
+-- the walk that a node is on
+abbrev pub IsWalkOf : Trees → Addr → ExprId → Work → Option Walk → Type 0
+IsWalkOf p at id w None = Unit {0}
+IsWalkOf p at id w (Some (Walk.Fold on)) = (id ≡ on.id) × (w ≡ Cell on.k on.n on.total) × IsFoldWalk p at on
+IsWalkOf p at id w (Some (Walk.Search on)) = (id ≡ on.id) × (w ≡ Search on.n on.key) × IsSearchWalk p at on
+IsWalkOf p at id w (Some (Walk.Lookup on)) = (id ≡ on.call.id) × (w ≡ Lookup on.m on.n on.key) × IsLookupWalk p at on

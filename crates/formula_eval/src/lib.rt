@@ -12,6 +12,7 @@ mod site;
 #[cfg(test)]
 mod tests;
 mod text_values;
+mod walks;
 pub mod work;
 
 pub use demand_spec::Asked;

@@ -72,7 +72,7 @@ impl<'a> Site<'a> {
     }
 
     /// A node goes on with a value.
-    fn go_on(&self, frames: &mut Frames, id: ExprId, work: Work, v: Value) -> Step
+    pub fn go_on(&self, frames: &mut Frames, id: ExprId, work: Work, v: Value) -> Step
         requires holds { Holds frames.old.room (length frames.old.frames) (tree_at self.now.pool.now id) }
         requires work { WorkFits self.now.texts.now self.now.at (tree_at self.now.pool.now id) work }
         requires value { IsValueOf self.now.texts.now v }
@@ -104,7 +104,7 @@ impl<'a> Site<'a> {
             Step::Eval(id) => Ok(self.start(frames, id)),
             Step::Give(v) => match frames.pop() {
                 None => Err(Asked::Val(v)),
-                Some((id, work)) => Ok(self.go_on(frames, id, work, v)),
+                Some((id, work)) => self.take_value(frames, id, work, v, known),
             },
             Step::Look(a) => match known.look(a) {
                 Look::Val(v) => Ok(Step::Give(v)),

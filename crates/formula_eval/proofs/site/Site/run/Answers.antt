@@ -1,10 +1,10 @@
-use Rattle.std.proofs.Common.{◌≡◌, Err, refl, sym, ap, ◌∙◌, subst}
+use Rattle.std.proofs.Common.{◌≡◌, refl, sym, ap, ◌∙◌, subst}
 use Rattle.cell_values.specs.declared.address.Addr.{Addr}
 use Rattle.demand_spec.specs.declared.Asked.{Asked}
 use Rattle.demand_spec.specs.Book.{look}
 use Rattle.formula_eval.specs.Machine.{Fits}
-use Rattle.formula_eval.specs.Evaluations.{Advances, Turns}
-use Rattle.formula_eval.proofs.Turns.{along_none, along_more, along_ends}
+use Rattle.formula_eval.specs.Evaluations.{Advances, Comes}
+use Rattle.formula_eval.proofs.Turns.{along_none, along_more, along_comes}
 use Rattle.formula_eval.proofs.site.Site.run.Goals as goal
 
 pub loop-next-init : goal.loop-next-init
@@ -36,5 +36,5 @@ pub returns-in-Err-clause-comes : goal.returns-in-Err-clause-comes
 returns-in-Err-clause-comes g c =
     let l : Addr → Asked = look (g.K.Known.book c.args.known.now) (g.K.Known.values c.args.known.now) in
     let same : look (g.K.Known.book c.loop-next.known) (g.K.Known.values c.loop-next.known) ≡ l = (λ i. look (c.loop-next.invariant.book i) (c.loop-next.invariant.values i)) in
-    along_ends c.args.self.now.pool.now c.args.self.now.texts.now c.args.self.now.at l c.args.first c.args.frames.now.frames c.loop-next.step c.loop-next.frames.frames c.in-Err.answer c.turn.new.frames.frames (g.K.Known.looks c.args.known.now) (g.K.Known.looks c.loop-next.known) (g.K.Known.looks c.turn.new.known) c.loop-next.invariant.along
-    (subst (λ z. Turns c.args.self.now.pool.now c.args.self.now.texts.now c.args.self.now.at z c.loop-next.step c.loop-next.frames.frames (Err c.in-Err.answer) c.turn.new.frames.frames (g.K.Known.looks c.loop-next.known) (g.K.Known.looks c.turn.new.known)) same c.in-Err.ensures.turns)
+    along_comes c.args.self.now.pool.now c.args.self.now.texts.now c.args.self.now.at l c.args.first c.args.frames.now.frames c.loop-next.step c.loop-next.frames.frames c.in-Err.answer c.turn.new.frames.frames (g.K.Known.looks c.args.known.now) (g.K.Known.looks c.loop-next.known) (g.K.Known.looks c.turn.new.known) c.loop-next.invariant.along
+    (subst (λ z. Comes c.args.self.now.pool.now c.args.self.now.texts.now c.args.self.now.at z c.loop-next.step c.loop-next.frames.frames c.in-Err.answer c.turn.new.frames.frames (g.K.Known.looks c.loop-next.known) (g.K.Known.looks c.turn.new.known)) same c.in-Err.ensures.turns)

@@ -1,7 +1,7 @@
 use Rattle.std.proofs.Common.{◌≡◌}
 use Rattle.demand_spec.specs.Book.{look}
 use Rattle.formula_eval.specs.Machine.{Fits, left}
-use Rattle.formula_eval.proofs.Turns.{Along}
+use Rattle.formula_eval.specs.Evaluations.{Along}
 use Rattle.formula_eval.proofs.site.Site.run.Given as goal
 
 abbrev pub invariant-loop-next : goal.invariant-loop-next
