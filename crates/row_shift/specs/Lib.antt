@@ -1,0 +1,4 @@
+pub mod Moves
+pub mod Ends
+pub mod MovedBook
+pub mod Pushed
