@@ -10,3 +10,5 @@ pub mod Walked
 pub mod Books
 pub mod Fields
 pub mod Firsts
+pub mod WithNumber
+pub mod Parted

@@ -3,3 +3,5 @@ pub mod Books
 pub mod Edits
 pub mod Faults
 pub mod Copies
+pub mod WithNumber
+pub mod Apart

@@ -1,6 +1,8 @@
 //! The book as a finite map whose formulas share expressions, and its edits.
 #![tactic(auto)]
 
+pub mod apart;
+pub mod book_with;
 mod bulk;
 mod cells;
 mod copies;
@@ -9,6 +11,8 @@ pub mod edits;
 mod tests;
 pub mod workbook;
 
+pub use apart::CellsApart;
+pub use book_with::BookWith;
 use cell_values::{Int, TextId};
 pub use edits::EditFault;
 use shared_expressions::ExprId;

@@ -1,5 +1,6 @@
 //! Workbooks.
-ghost use Rattle.std.specs.Prelude.{◌≡◌, ℕ, ◌<◌, ◌≤◌, ◌*◌, [], Some, None, true, is_some, length, option_map, IfOk, IfErr, IfSome, OnOk, OnErr, MatchResult};
+ghost use Rattle.std.specs.Prelude.{◌≡◌, ℕ, ℤ, ◌<◌, ◌≤◌, ◌*◌, ◌&&◌, nat_le, nat_lt, [], Some, None, true, is_some, is_none, length, option_map, IfOk, IfErr, IfSome, OnOk, OnErr, MatchResult};
+ghost use Rattle.cell_values.specs.declared.TheConstants.{MAX_BOOK_CELLS};
 ghost use Rattle.cell_values.specs.Addresses.{IsOnSheet};
 ghost use Rattle.cell_values.specs.Areas.{height, width, IsArea};
 ghost use Rattle.cell_values.specs.Fields.{raw_of, IsRawOf};
@@ -11,12 +12,15 @@ ghost use Rattle.formula_tokens.specs.Words.{begins_with};
 ghost use Rattle.formula_grammar.specs.declared.faults.FaultKind.{FaultKind};
 ghost use Rattle.demand_spec.specs.Book.{Content};
 ghost use Rattle.shared_expressions.specs.Trees.{KeepsTrees};
+ghost use Rattle.workbook_core.specs.Apart.{cells_of, with_cells};
 ghost use Rattle.workbook_core.specs.Books.{next_in, extent_in, IsWorkbook};
 ghost use Rattle.demand_spec.specs.Edits.{Put, Copy, IsApplied, IsTooLarge};
 ghost use Rattle.workbook_core.specs.Edits.{Puts, with_field, FieldHasFault, IsField, IsPutFault, IsCopyFault, IsThisFault, IsTooMany};
 ghost use Rattle.workbook_core.specs.Faults.{IsFieldFault, IsOutOfMemory, IsRead, IsWithoutRoom};
 ghost use Rattle.workbook_core.specs.Held.{content_in, holds_formula, IsHeldOf, SetsHeld};
+ghost use Rattle.workbook_core.specs.WithNumber.{with_number};
 
+use crate::apart::CellsApart;
 use crate::cells::CellMap;
 use crate::copies::{addresses_of, copy_cells};
 use crate::{Content, EditFault};
@@ -83,6 +87,13 @@ impl Workbook {
         ensures workbook { IsWorkbook self.now }
     {
         self.cells.len() as u32
+    }
+
+    /// Whether there would be too many cells with a number in this one.
+    pub fn is_full_for(&self, at: Addr) -> bool
+        ensures { (n : ℤ) → result ≡ nat_lt MAX_BOOK_CELLS (length (with_number self.now.book at n).cells) }
+    {
+        is_full(self.content(at), self.count())
     }
 
     /// The first cell that is not empty and lies behind the given address, or the first of all.
@@ -216,6 +227,15 @@ impl Workbook {
             }
         }
     }
+
+    /// Exchanges the cells with others that fit the workbook's sheets and texts. It takes no memory, and undoes itself.
+    pub fn swap_cells(&mut self, apart: &mut CellsApart)
+        requires { IsWorkbook (with_cells self.old apart.old) }
+        ensures workbook { self.new ≡ with_cells self.old apart.old }
+        ensures apart { apart.new ≡ cells_of self.old }
+    {
+        apart.exchange(&mut self.cells, &mut self.pool);
+    }
 }
 
 /// What a field puts into a cell.
@@ -284,6 +304,13 @@ fn set_cell(cells: &mut CellMap, at: Addr, content: Content) -> Result<(), EditF
     }
     cells.set(at, content)?;
     Ok(())
+}
+
+/// Whether a cell is empty, in a workbook with so many cells as there may be.
+fn is_full(content: Option<Content>, count: u32) -> bool
+    ensures { result ≡ (is_none content && nat_le MAX_BOOK_CELLS count) }
+{
+    content.is_none() && count >= MAX_BOOK_CELLS
 }
 
 /// Whether a cell holds a formula.

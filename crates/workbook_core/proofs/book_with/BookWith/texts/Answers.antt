@@ -1,0 +1,11 @@
+use Rattle.std.proofs.Common.{subst, ap, ◌∙◌}
+use Rattle.workbook_core.specs.Books.{SharedBook}
+use Rattle.workbook_core.specs.WithNumber.{AreAskable}
+use Rattle.workbook_core.proofs.WithNumber.{askable_told, same_texts_with}
+use Rattle.workbook_core.proofs.book_with.BookWith.texts.Goals as goal
+
+pub returns-clause-texts : goal.returns-clause-texts
+returns-clause-texts c = c.texts.ensures ∙ same_texts_with c.self.inside.book.now c.self.inside.number ∙ ap (λ (w : SharedBook). w.book.texts) c.self.view_is
+
+pub returns-clause-askable : goal.returns-clause-askable
+returns-clause-askable c = subst AreAskable c.self.view_is (askable_told c.self.inside.book.now c.self.inside.number c.count-count.ensures.workbook)
