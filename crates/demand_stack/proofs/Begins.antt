@@ -11,7 +11,8 @@ use Rattle.demand_spec.specs.Listed.{IsFormulaOf}
 use Rattle.cell_values.specs.Texts.{Texts}
 use Rattle.demand_spec.specs.Plan.{Plan}
 use Rattle.shared_expressions.specs.Trees.{Trees, depth}
-use Rattle.workbook_core.specs.Books.{SharedBook, IsWorkbook}
+use Rattle.workbook_core.specs.Books.{SharedBook}
+use Rattle.workbook_core.specs.WithNumber.{AreAskable}
 use Rattle.formula_eval.specs.declared.work.Frame.{Frame}
 use Rattle.formula_eval.specs.Evaluations.{Answered, Stands}
 use Rattle.demand_stack.specs.Open.{tree_or, tree_of, depth_of, plan_of, IsOpen, LiesOn, AnswersOn}
@@ -32,7 +33,7 @@ pub record IsFormulaCell (w : SharedBook) (a : Addr) (t : Expr) : Type 0 where
   pub sound : IsSound a t
   pub meant : IsFormulaOf w.book.texts t
 
-pub formula_cell : (w : SharedBook) (a : Addr) (t : Expr) → IsWorkbook w → formula_at w.book a ≡ Some t → IsFormulaCell w a t
+pub formula_cell : (w : SharedBook) (a : Addr) (t : Expr) → AreAskable w → formula_at w.book a ≡ Some t → IsFormulaCell w a t
 unfolding formula_at
 formula_cell w a t h e = go (entry_at w.book.cells a) refl e
   where
@@ -43,7 +44,7 @@ formula_cell w a t h e = go (entry_at w.book.cells a) refl e
     go (Some (Content.Truth n)) p q = cc
     go (Some (Content.Formula u)) p q =
         let same : u ≡ t = cc in
-        let c = h.cells a (Content.Formula u) p in
+        let c = h a (Content.Formula u) p in
         subst (IsFormulaCell w a) same (record { sound = c.sound; meant = c.texts })
 
 -- an answer about the formula's tree is one about the cell

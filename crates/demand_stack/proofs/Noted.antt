@@ -24,6 +24,11 @@ set_same [] i = refl
 set_same (x ∷ k) zero = refl
 set_same (x ∷ k) (suc i) = ap (λ z. x ∷ z) (set_same k i)
 
+pub note_again : (ns : List Note) (i : ℕ) → get_or ns i blank ≡ get_or ns i (get_or ns i blank)
+note_again [] i = refl
+note_again (x ∷ ns) zero = refl
+note_again (x ∷ ns) (suc i) = note_again ns i
+
 -- a note with the same result
 pub known_stays : (ns : List Note) (i : ℕ) (n : Note) → n.shown ≡ (get_or ns i blank).shown → known_of (set ns i n) ≡ known_of ns
 known_stays ns i n e = known_set ns i n ∙ ap (set (known_of ns) i) (e ∙ sym (known_at ns i)) ∙ set_same (known_of ns) i

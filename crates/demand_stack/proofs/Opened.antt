@@ -13,7 +13,7 @@ use Rattle.workbook_core.specs.Books.{SharedBook}
 use Rattle.formula_eval.specs.declared.work.Frame.{Frame}
 use Rattle.formula_eval.specs.Stacks.{Stack, IsShut, dropped}
 use Rattle.formula_eval.specs.Laws.{IsKept, StandsOn, StandsReady, DropsToBase}
-use Rattle.demand_stack.specs.Open.{depth_of, depths, plan_of, AreOpen, IsReady, LiesOn, AnswersOn, is_need}
+use Rattle.demand_stack.specs.Open.{depth_of, depths, plan_of, AreOpen, IsReady, LiesOn, AnswersOn, is_need, tree_of, tree_or}
 
 -- an evaluation stays open where more is known
 
@@ -92,6 +92,12 @@ without b x (y ∷ ys) (inl e) = record { left = ys; less = ap (λ z. depth_of b
 without b x (y ∷ ys) (inr k) =
     let w = without b x ys k in
     record { left = y ∷ w.left; less = omega (arith, w.less); still = λ c m n. ⊎_elim (λ d. inl d) (λ q. inr (w.still c q n)) m }
+
+-- cells with the same formulas have the same depths
+pub same_depths : (b b' : Book) (cells : List Addr) → ((a : Addr) → In a cells → formula_at b' a ≡ formula_at b a) → depths b' cells ≡ depths b cells
+unfolding tree_of
+same_depths b b' [] h = refl
+same_depths b b' (a ∷ cells) h = (let one = h a (inl refl) in let rest = same_depths b b' cells (λ c k. h c (inr k)) in λ i. depth (tree_or (one i)) + rest i)
 
 pub few_depths : (b : Book) (xs ys : List Addr) → Distinct xs → ((c : Addr) → In c xs → In c ys) → depths b xs ≤ depths b ys
 few_depths b [] ys d h = omega arith

@@ -11,7 +11,8 @@ use Rattle.demand_spec.specs.Book.{Book, Content, Known, formula_of, own_of, for
 use Rattle.demand_spec.specs.Laws.{PartOf}
 use Rattle.demand_spec.specs.Results.{AreFoundOf}
 use Rattle.demand_spec.proofs.Results.{shows_own, shows_its_texts}
-use Rattle.workbook_core.specs.Books.{SharedBook, IsWorkbook}
+use Rattle.workbook_core.specs.Books.{SharedBook}
+use Rattle.workbook_core.specs.WithNumber.{AreAskable}
 use Rattle.formula_eval.specs.declared.machine.Look.{Look}
 use Rattle.formula_eval.specs.Evaluations.{found_as, MeansValue}
 use Rattle.worker_machine.specs.Jobs.{Pending, cell_at, number_in, cell_number}
@@ -56,8 +57,8 @@ recalled_other ps k results a t v s f p e =
 
 -- text numbers
 
-pub workbook_found : (w : SharedBook) → IsWorkbook w → AreFoundOf w.book.texts w.book.cells
-workbook_found w h a x e = (h.cells a x e).texts
+pub askable_found : (w : SharedBook) → AreAskable w → AreFoundOf w.book.texts w.book.cells
+askable_found w h a x e = (h a x e).texts
 
 -- a value that is found is what the cell shows
 look_shows : (b : Book) (e : Known) (a : Addr) (v : Value) → PartOf e (finished b) → look b e a ≡ Val v → shown b a ≡ Shown.Val v
@@ -71,13 +72,13 @@ look_shows b e a v part q = by_formula (formula_at b a) refl q
     by_formula (Some t) f q = by_known t f (e a) refl q
     by_formula None f q = (let same : own b a ≡ v = cc in shows_own b a f ∙ ap Shown.Val same)
 
-pub seen_meant : (w : SharedBook) (cells : List Addr) (k : KnownList) (results : List (Addr × Shown)) (a : Addr) (r : Look) → IsWorkbook w → IsRecall w cells k results → found_as r a ≡ look w.book (values (cells_in w cells) k) a → MeansValue w.book.texts r
-seen_meant w cells k results a (Look.Val v) h s e = subst (IsShownOf w.book.texts) (look_shows w.book (values (cells_in w cells) k) a v (values_part (cells_in w cells) k s.pending s.right) (sym e)) (shows_its_texts w.book (workbook_found w h) a)
+pub seen_meant : (w : SharedBook) (cells : List Addr) (k : KnownList) (results : List (Addr × Shown)) (a : Addr) (r : Look) → AreAskable w → IsRecall w cells k results → found_as r a ≡ look w.book (values (cells_in w cells) k) a → MeansValue w.book.texts r
+seen_meant w cells k results a (Look.Val v) h s e = subst (IsShownOf w.book.texts) (look_shows w.book (values (cells_in w cells) k) a v (values_part (cells_in w cells) k s.pending s.right) (sym e)) (shows_its_texts w.book (askable_found w h) a)
 seen_meant w cells k results a Look.Missing h s e = tt
 
 -- a result that is known is of the book's texts
-pub known_meant : (w : SharedBook) (cells : List Addr) (k : KnownList) (i : ℕ) (o : Option Shown) → IsWorkbook w → AllRight (cells_in w cells) k → o ≡ get_or k i None → IfSome o (IsShownOf w.book.texts)
-known_meant w cells k i (Some r) h right e = subst (IsShownOf w.book.texts) (sym (right i r (sym e))) (shows_its_texts w.book (workbook_found w h) (cell_at (cells_in w cells) i))
+pub known_meant : (w : SharedBook) (cells : List Addr) (k : KnownList) (i : ℕ) (o : Option Shown) → AreAskable w → AllRight (cells_in w cells) k → o ≡ get_or k i None → IfSome o (IsShownOf w.book.texts)
+known_meant w cells k i (Some r) h right e = subst (IsShownOf w.book.texts) (sym (right i r (sym e))) (shows_its_texts w.book (askable_found w h) (cell_at (cells_in w cells) i))
 known_meant w cells k i None h right e = tt
 
 -- a look, by what the cell holds

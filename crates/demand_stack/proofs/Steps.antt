@@ -1,6 +1,6 @@
 -- The changes of the stack, as its methods make them.
-use Rattle.std.proofs.Common.{◌≡◌, ℕ, zero, suc, ◌<◌, ◌≤◌, Bool, true, false, cond, List, [], ◌∷◌, ◌++◌, length, map, reverse, take, drop, get_or, set, replicate, eqb, refl, sym, ap, ◌∙◌, subst, Some, None, arith}
-use Rattle.std.proofs.lemmas.List.{length-drop, length-replicate, get_or_default}
+use Rattle.std.proofs.Common.{◌≡◌, ℕ, zero, suc, ◌<◌, ◌≤◌, Bool, true, false, cond, List, [], ◌∷◌, length, map, reverse, get_or, set, replicate, eqb, refl, sym, ap, ◌∙◌, subst, Option, Some, None, is_some, arith}
+use Rattle.std.proofs.lemmas.List.{length-replicate, get_or_default, set-get_or}
 use Rattle.cell_values.specs.declared.TheConstants.{MAX_BOOK_CELLS}
 use Rattle.cell_values.specs.declared.address.Addr.{Addr}
 use Rattle.cell_values.specs.declared.values.Shown.{Shown}
@@ -16,14 +16,15 @@ use Rattle.formula_eval.specs.Stacks.{Stack, dropped}
 use Rattle.formula_eval.specs.Laws.{StandsOn, StandsReady, DropsToBase}
 use Rattle.worker_machine.specs.declared.state.Entry.{Entry}
 use Rattle.worker_machine.specs.Jobs.{cell_at, shows}
-use Rattle.worker_machine.specs.Evaluation.{IsEvaluation, LinkTo, cells_of, has, learn_top, part_to, pop, values}
+use Rattle.worker_machine.specs.Evaluation.{AllRight, IsEvaluation, LinkTo, cells_of, has, learn_top, part_to, pop, values}
 use Rattle.worker_machine.proofs.Numbers.{KnownList, has_not}
 use Rattle.worker_machine.proofs.Evaluating.{few_numbers, start_evaluates}
 use Rattle.demand_stack.specs.declared.notes.Note.{Note}
-use Rattle.demand_stack.specs.StackSeen.{StackSeen, AreStored, IsDemandStack, IsUnknownTop, IsKnownTop, at_first, with_known, with_stack}
+use Rattle.demand_stack.specs.StackSeen.{StackSeen, AreStored, IsDemandStack, IsUnknownTop, IsKnownTop, at_first, pending_of, with_known, with_stack}
 use Rattle.demand_stack.specs.Open.{depths, AreOpen, IsReady, LiesOn, AnswersOn, blank, begun_of, is_need}
 use Rattle.demand_stack.specs.Recall.{cells_in, known_of, look_over}
 use Rattle.demand_stack.specs.Kept.{AreKnown, IsKept, lower, note_cycle}
+use Rattle.demand_stack.proofs.Recalls.{known_at}
 use Rattle.demand_stack.proofs.Noted.{known_stays}
 use Rattle.demand_stack.proofs.Seeking.{known_here}
 use Rattle.demand_stack.proofs.Keeping.{sized, top_noted, top_formula, may_ask, ask_kept, ask_answer, learnt_note, learn_top_kept, learn_kept, close_kept, pushed_note, push_kept, popped_note, pop_kept}
@@ -170,7 +171,7 @@ module _ (w : SharedBook) (cells : List Addr) (rs : List (Addr × Shown)) (first
 
 -- the start
 pub starts_kept : (w : SharedBook) (cells : List Addr) (rs : List (Addr × Shown)) (first : ℕ) (xs : List Entry) (ns : List Note) (fs : Stack) (room : ℕ) → IsPending w.book cells → AreStored (cells_in w cells) rs → first ≤ length cells
-    → xs ≡ [] → ns ≡ replicate (length cells) blank → fs.room ≡ depths w.book cells → fs.frames ≡ [] → length cells ≤ room
+    → xs ≡ [] → ns ≡ replicate (length cells) blank → depths w.book cells ≤ fs.room → fs.frames ≡ [] → length cells ≤ room
     → IsKept w cells rs first (cells_of (reverse xs)) ns fs room first 0
 starts_kept w cells rs first xs ns fs room pending stored low x n r f capacity =
     let k : known_of ns ≡ replicate (length cells) None = ap known_of n ∙ blanks (length cells) in
@@ -182,7 +183,7 @@ starts_kept w cells rs first xs ns fs room pending stored low x n r f capacity =
       marked = λ i. subst (λ z. (get_or z i blank).on_stack ≡ false) (sym n) (unmarked (length cells) i);
       shut = λ i q e. subst (λ z. (get_or z i blank).begun ≡ false) (sym n) (unbegun (length cells) i);
       begun = f;
-      frames_fit = (let z = r in omega arith);
+      frames_fit = r;
       stack_fits = capacity;
       ahead_known = known_here (known_of ns) first (omega arith);
       passed_known = known_here (known_of ns) 0 (omega arith);
@@ -226,6 +227,18 @@ known_view g v w cells first stack k k' e q = subst (λ (z : StackSeen). view w 
 pub stack_view : (g : List Entry → List Entry) (v : StackSeen) (w : SharedBook) (cells : List Addr) (first : ℕ) (stack stack' : List Entry) (k k' : KnownList) → view w cells first stack k ≡ v → k' ≡ k → stack' ≡ g stack → view w cells first stack' k' ≡ with_stack v (g v.stack)
 stack_view g v w cells first stack stack' k k' e q p = subst (λ (z : StackSeen). view w cells first stack' k' ≡ with_stack z (g z.stack)) e (λ z. record { shared = w; cells = cells; first = first; stack = p z; known = q z })
 
+-- what was known before is learnt again
+pub known_again : (v : StackSeen) (w : SharedBook) (cells : List Addr) (first : ℕ) (stack : List Entry) (ns : List Note) (i : ℕ) (r : Shown) → view w cells first stack (known_of ns) ≡ v → AllRight (cells_in w cells) (known_of ns) → is_some (get_or ns i blank).shown ≡ true → r ≡ shows (pending_of v) i → v ≡ with_known v (set v.known i (Some r))
+known_again v w cells first stack ns i r q right k h = go (get_or ns i blank).shown refl k
+  where
+    go : (o : Option Shown) → (get_or ns i blank).shown ≡ o → is_some o ≡ true → v ≡ with_known v (set v.known i (Some r))
+    go None e k = cc
+    go (Some x) e k =
+        let known : get_or (known_of ns) i None ≡ Some x = known_at ns i ∙ e in
+        let same : x ≡ r = right i x known ∙ ap (λ (z : StackSeen). shows (pending_of z) i) q ∙ sym h in
+        let here : get_or v.known i None ≡ Some r = ap (λ (z : StackSeen). get_or z.known i None) (sym q) ∙ known ∙ ap Some same in
+        ap (with_known v) (sym (ap (set v.known i) (sym here) ∙ set-get_or v.known i None))
+
 -- what the known or unknown top says of the first cell
 
 pub unknown_top : (v : StackSeen) (f : Entry) (stack : List Entry) (k : KnownList) (w : SharedBook) (cells : List Addr) (first : ℕ) (i : ℕ) (rest : List ℕ) → view w cells first stack k ≡ v → IsUnknownTop v f → cells_of stack ≡ i ∷ rest → (f.cell ≡ i) × (get_or k i None ≡ None)
@@ -256,18 +269,3 @@ part_short i (c ∷ cs) = go (eqb c i) (part_short i cs)
     go : (t : Bool) → length (part_to i cs) ≤ length cs → length (cond t (c ∷ []) (c ∷ part_to i cs)) ≤ suc (length cs)
     go true l = omega arith
     go false l = omega arith
-
--- what was written back to a Vec of the same length
-pub written : (n : ℕ) (new old : List Note) → length new ≡ length old → n ≡ length old → take n (new ++ drop (length new) old) ≡ new
-written n new old e f =
-    let short : drop (length new) old ≡ [] = none (drop (length new) old) (let a = length-drop (length new) old in omega arith) in
-    let whole : n ≡ length new = f ∙ sym e in
-    ap (λ z. take n (new ++ z)) short ∙ ap (λ z. take z (new ++ [])) whole ∙ all new
-  where
-    none : (ys : List Note) → length ys ≡ 0 → ys ≡ []
-    none [] e = refl
-    none (y ∷ ys) e = absurd (omega arith)
-
-    all : (ys : List Note) → take (length ys) (ys ++ []) ≡ ys
-    all [] = refl
-    all (y ∷ ys) = ap (λ z. y ∷ z) (all ys)

@@ -15,7 +15,7 @@ use crate::recalled::Recalled;
 use cell_values::{Addr, Value};
 use formula_eval::{Asked, Frames, abandon, begin, resume};
 use shared_expressions::ExprId;
-use workbook_core::{Content, Workbook};
+use workbook_core::{BookWith, Content};
 
 /// The expression of a formula cell.
 fn expression(content: Option<Content>) -> Option<ExprId>
@@ -28,7 +28,12 @@ fn expression(content: Option<Content>) -> Option<ExprId>
 }
 
 /// Begins the evaluation of a formula cell.
-fn begin_cell<'a>(frames: &mut Frames, book: &Workbook, known: &mut Recalled<'a>, at: Addr) -> Asked
+fn begin_cell(
+    frames: &mut Frames,
+    book: &BookWith<'_>,
+    known: &mut Recalled<'_, '_>,
+    at: Addr,
+) -> Asked
     requires same { known.old.shared ≡ book.now }
     requires formula { (t : Expr) × (formula_at book.now.book at ≡ Some t) }
     requires ready { IsReady book.now at false frames.old }
@@ -42,10 +47,10 @@ fn begin_cell<'a>(frames: &mut Frames, book: &Workbook, known: &mut Recalled<'a>
 }
 
 /// Asks a cell: begins its evaluation, or goes on with it where it stands open.
-pub(crate) fn evaluate<'a>(
+pub(crate) fn evaluate(
     frames: &mut Frames,
-    book: &Workbook,
-    known: &mut Recalled<'a>,
+    book: &BookWith<'_>,
+    known: &mut Recalled<'_, '_>,
     at: Addr,
     begun: bool,
 ) -> Asked
@@ -83,7 +88,7 @@ pub(crate) fn is_need(answer: Asked) -> bool
 }
 
 /// The depth of a cell's formula.
-fn depth_at(book: &Workbook, at: Addr) -> usize
+fn depth_at(book: &BookWith<'_>, at: Addr) -> usize
     ensures depth { result ≡ depth_of book.now.book at }
     ensures few { result ≤ 512 }
 {
@@ -94,7 +99,7 @@ fn depth_at(book: &Workbook, at: Addr) -> usize
 }
 
 /// The depths of the formulas of all pending cells.
-pub(crate) fn room_for(book: &Workbook, cells: &[Addr]) -> usize
+pub(crate) fn room_for(book: &BookWith<'_>, cells: &[Addr]) -> usize
     requires { length cells.now ≤ MAX_BOOK_CELLS }
     ensures { result ≡ depths book.now.book cells.now }
 {

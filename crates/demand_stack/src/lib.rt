@@ -5,6 +5,7 @@
 //! what is learnt of them are those of `worker_machine`; this crate does it in place, on memory that is taken once.
 #![tactic(auto)]
 
+mod alone;
 mod evaluations;
 mod marks;
 mod notes;

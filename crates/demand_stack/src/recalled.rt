@@ -1,5 +1,5 @@
 //! The values over which a formula is asked.
-ghost use Rattle.std.specs.Prelude.{◌≡◌, Some, None, get_or, option_map};
+ghost use Rattle.std.specs.Prelude.{◌≡◌, Some, option_map};
 ghost use Rattle.cell_values.specs.Order.{InOrder, entry_at};
 ghost use Rattle.formula_trees.specs.Expr.{Expr};
 ghost use Rattle.demand_spec.specs.Book.{look, formula_at};
@@ -10,23 +10,23 @@ ghost use Rattle.worker_machine.specs.Jobs.{number_in};
 ghost use Rattle.worker_machine.specs.Evaluation.{values, known_value};
 ghost use Rattle.demand_stack.specs.Recall.{recalled_cells, known_of, own_in};
 
-use crate::notes::Note;
+use crate::notes::Notes;
 use cell_values::{Addr, Shown, Value};
 use demand_spec::Results;
 use formula_eval::{Known, Look};
 use std::marker::Model;
-use workbook_core::{Content, Workbook};
+use workbook_core::{BookWith, Content};
 
 /// A book, what is known of its pending cells, and the stored results of the others.
 #[derive(Drop)]
-pub struct Recalled<'a> {
-    book: &'a Workbook,
+pub struct Recalled<'a, 'b> {
+    book: &'a BookWith<'b>,
     cells: &'a [Addr],
-    notes: &'a [Note],
+    notes: &'a Notes,
     stored: &'a Results,
 }
 
-impl<'a> Model for Recalled<'a> {
+impl<'a, 'b> Model for Recalled<'a, 'b> {
     ghost use Rattle.demand_stack.specs.Recall.{Recall};
 
     ghost Value = { Recall };
@@ -71,17 +71,6 @@ fn value_of(shown: Option<Shown>) -> Option<Value>
     }
 }
 
-/// What is known of a cell.
-pub(crate) fn shown_of(notes: &[Note], cell: usize) -> Option<Shown>
-    ensures { result ≡ get_or (known_of notes.now) cell None }
-{
-    if cell < notes.len() {
-        notes[cell].shown
-    } else {
-        None
-    }
-}
-
 /// The value of a cell that holds no formula.
 fn own_value(content: Option<Content>) -> Option<Value>
     ensures { (p : Trees) → result ≡ own_in (option_map (content_in p) content) }
@@ -95,16 +84,16 @@ fn own_value(content: Option<Content>) -> Option<Value>
     }
 }
 
-impl<'a> Recalled<'a> {
+impl<'a, 'b> Recalled<'a, 'b> {
     ghost use Rattle.demand_stack.specs.Recall.{IsRecall};
 
     /// What is known of the cells of a book.
     pub fn new(
-        book: &'a Workbook,
+        book: &'a BookWith<'b>,
         cells: &'a [Addr],
-        notes: &'a [Note],
+        notes: &'a Notes,
         stored: &'a Results,
-    ) -> Recalled<'a>
+    ) -> Recalled<'a, 'b>
         requires { IsRecall book.now cells.now (known_of notes.now) stored.now.entries }
         ensures { result ≡ record { shared = book.now; cells = cells.now; known = known_of notes.now } }
     {
@@ -122,7 +111,7 @@ impl<'a> Recalled<'a> {
         ensures { result ≡ values (recalled_cells self.now) self.now.known at }
     {
         match number_in(self.cells, at) {
-            Some(cell) => value_of(shown_of(self.notes, cell)),
+            Some(cell) => value_of(self.notes.shown(cell)),
             None => value_of(result_of(self.stored, at)),
         }
     }
@@ -142,7 +131,7 @@ impl<'a> Recalled<'a> {
     }
 }
 
-impl<'a> Known for Recalled<'a> {
+impl<'a, 'b> Known for Recalled<'a, 'b> {
     ghost use Rattle.worker_machine.specs.Evaluation.{values as values_over};
     ghost use Rattle.demand_stack.specs.Recall.{recalled_cells};
 

@@ -1,32 +1,35 @@
 //! A stack of pending cells whose evaluations stay open along it.
-ghost use Rattle.std.specs.Prelude.{◌≡◌, ◌<◌, ◌≤◌, true, false, Some, None, ◌∷◌, length, get_or, set, IfOk, IfSome};
+ghost use Rattle.std.specs.Prelude.{◌≡◌, ◌<◌, ◌≤◌, true, false, Some, None, [], ◌∷◌, length, get_or, set, IfOk, IfSome};
+ghost use Rattle.cell_values.specs.declared.address.Addr.{Addr};
 ghost use Rattle.cell_values.specs.Values.{IsShownOf};
+ghost use Rattle.demand_spec.specs.Book.{formula_at};
+ghost use Rattle.demand_spec.specs.Laws.{In};
 ghost use Rattle.worker_machine.specs.declared.state.Entry.{Entry as OnStack};
 ghost use Rattle.worker_machine.specs.Jobs.{cell_number};
 ghost use Rattle.worker_machine.specs.Evaluation.{LinkTo, cells_of, first_from, has, learn_top, mark_cycle, part_to, pop};
 
 use crate::evaluations::{abandon_if, evaluate, is_need, room_for};
-use crate::marks::{abandon_to, next_unknown, note_cycle, on_stack, top_cell};
-use crate::notes::{BLANK, Note};
-use crate::recalled::{Recalled, number_in, shown_of};
+use crate::marks::{abandon_to, next_unknown, note_cycle, top_cell};
+use crate::notes::Notes;
+use crate::recalled::{Recalled, number_in};
 use cell_values::{Addr, Shown};
 use demand_spec::Results;
 use formula_eval::{Asked, Frames, law_drops_to_base, law_stands_on, law_stands_ready};
 use std::alloc::{AllocError, Global};
 use std::marker::Model;
-use workbook_core::Workbook;
+use workbook_core::BookWith;
 use worker_machine::Entry;
 
 /// A stack of pending cells and what is known of all of them. The evaluation of each cell that was asked, and of which
 /// nothing is known, stands open. A cell is named by its number among the pending ones, from 0. All memory is taken by
-/// `new`: for each cell an entry and a note, and for each level of its formula 96 bytes.
+/// `new`: for each cell an entry and a note of 34 bytes, and for each level of its formula 96 bytes.
 #[derive(Drop)]
 pub struct DemandStack<'b> {
-    book: &'b Workbook,
+    book: BookWith<'b>,
     cells: &'b [Addr],
     stored: &'b Results,
     stack: Vec<Entry>,
-    notes: Vec<Note>,
+    notes: Notes,
     frames: Frames,
     first: u32,
     // All cells from `first` to `ahead`, and from 0 to `passed`, are known.
@@ -49,9 +52,9 @@ impl<'b> Model for DemandStack<'b> {
 
     ghost coded = { Prim.hlevel (codes, expr_code) };
 
-    ghost view = { λ m. record { shared = m.book.now; cells = m.cells.now; first = m.first; stack = reverse m.stack.items; known = known_of m.notes.items } };
+    ghost view = { λ m. record { shared = m.book; cells = m.cells.now; first = m.first; stack = reverse m.stack.items; known = known_of m.notes } };
 
-    ghost invariant = { λ m. IsKept m.book.now m.cells.now m.stored.now.entries m.first (cells_of (reverse m.stack.items)) m.notes.items m.frames (vec_capacity m.stack) m.ahead m.passed };
+    ghost invariant = { λ m. IsKept m.book m.cells.now m.stored.now.entries m.first (cells_of (reverse m.stack.items)) m.notes m.frames (vec_capacity m.stack) m.ahead m.passed };
 }
 
 impl<'b> DemandStack<'b> {
@@ -62,19 +65,19 @@ impl<'b> DemandStack<'b> {
     /// cells, and the search for a cell that is not known begins at `first`. Fails where memory runs out.
     pub fn new(
         alloc: Global,
-        book: &'b Workbook,
+        book: BookWith<'b>,
         cells: &'b [Addr],
         stored: &'b Results,
         first: u32,
     ) -> Result<DemandStack<'b>, AllocError>
-        requires pending { IsPending book.now.book cells.now }
-        requires stored { AreStored (record { book = book.now.book; cells = cells.now }) stored.now.entries }
+        requires pending { IsPending book.book cells.now }
+        requires stored { AreStored (record { book = book.book; cells = cells.now }) stored.now.entries }
         requires first { first ≤ length cells.now }
-        ensures { IfOk result (λ s. s ≡ at_first book.now cells.now first) }
+        ensures { IfOk result (λ s. s ≡ at_first book.entry cells.now first) }
     {
         let stack = Vec::with_capacity(alloc, cells.len())?;
-        let notes = vec![in alloc; BLANK; cells.len()]?;
-        let frames = Frames::new(alloc, room_for(book, cells))?;
+        let notes = Notes::new(alloc, cells.len())?;
+        let frames = Frames::new(alloc, room_for(&book, cells))?;
         Ok(DemandStack {
             book,
             cells,
@@ -86,6 +89,22 @@ impl<'b> DemandStack<'b> {
             ahead: first,
             passed: 0,
         })
+    }
+
+    /// The same cells over another workbook, where they have the same formulas: nothing is begun, and nothing is known.
+    /// `stored` has the results of all other formula cells there. Takes no memory.
+    pub fn restart(&mut self, book: BookWith<'b>, stored: &'b Results)
+        requires idle { self.old.stack ≡ [] }
+        requires pending { IsPending book.book self.old.cells }
+        requires stored { AreStored (record { book = book.book; cells = self.old.cells }) stored.now.entries }
+        requires formulas { (a : Addr) → In a self.old.cells → formula_at book.book a ≡ formula_at self.old.shared.book a }
+        ensures { self.new ≡ at_first book.entry self.old.cells self.old.first }
+    {
+        self.notes.forget_all();
+        self.book = book;
+        self.stored = stored;
+        self.ahead = self.first;
+        self.passed = 0;
     }
 
     /// How many cells are pending.
@@ -111,9 +130,9 @@ impl<'b> DemandStack<'b> {
         ensures texts { IfSome result (IsShownOf self.now.shared.book.texts) }
         ensures sees { IsDemandStack self.now }
     {
-        // `count` tells what all workbooks keep.
-        let _count = self.book.count();
-        shown_of(&self.notes, i as usize)
+        // `texts` tells what an evaluation keeps of a workbook.
+        let _texts = self.book.texts();
+        self.notes.shown(i as usize)
     }
 
     /// Whether a cell is on the stack.
@@ -121,7 +140,7 @@ impl<'b> DemandStack<'b> {
         ensures { result ≡ has i (cells_of self.now.stack) }
     {
         let _ = &self.book;
-        on_stack(&self.notes, i as usize)
+        self.notes.is_on_stack(i as usize)
     }
 
     /// The number of a pending cell, None of any other.
@@ -164,14 +183,10 @@ impl<'b> DemandStack<'b> {
         law_stands_ready();
         let cell = top_cell(&self.stack) as usize;
         let at = self.cells[cell];
-        let note = self.notes[cell];
-        let mut known = Recalled::new(self.book, self.cells, &self.notes, self.stored);
-        let answer = evaluate(&mut self.frames, self.book, &mut known, at, note.begun);
-        self.notes[cell] = Note {
-            shown: note.shown,
-            on_stack: note.on_stack,
-            begun: is_need(answer),
-        };
+        let begun = self.notes.is_begun(cell);
+        let mut known = Recalled::new(&self.book, self.cells, &self.notes, self.stored);
+        let answer = evaluate(&mut self.frames, &self.book, &mut known, at, begun);
+        self.notes.set_begun(cell, is_need(answer));
         answer
     }
 
@@ -182,14 +197,8 @@ impl<'b> DemandStack<'b> {
         requires linked { LinkTo (pending_of self.old) entry.cell (cells_of self.old.stack) }
         ensures { self.new ≡ with_stack self.old (entry ∷ self.old.stack) }
     {
-        let cell = entry.cell as usize;
-        let note = self.notes[cell];
         self.stack.push_reserved(entry);
-        self.notes[cell] = Note {
-            shown: note.shown,
-            on_stack: true,
-            begun: false,
-        };
+        self.notes.set_on_stack(entry.cell as usize, true);
     }
 
     /// Takes the top off, which is known.
@@ -198,13 +207,8 @@ impl<'b> DemandStack<'b> {
         ensures { self.new ≡ with_stack self.old (pop self.old.stack) }
     {
         let cell = top_cell(&self.stack) as usize;
-        let note = self.notes[cell];
         let _top = self.stack.pop();
-        self.notes[cell] = Note {
-            shown: note.shown,
-            on_stack: false,
-            begun: false,
-        };
+        self.notes.set_on_stack(cell, false);
     }
 
     /// This is the result of the top cell. Its evaluation is dropped where it stands open.
@@ -215,13 +219,8 @@ impl<'b> DemandStack<'b> {
         law_stands_on();
         law_drops_to_base();
         let cell = top_cell(&self.stack) as usize;
-        let note = self.notes[cell];
-        abandon_if(&mut self.frames, note.begun);
-        self.notes[cell] = Note {
-            shown: Some(shown),
-            on_stack: note.on_stack,
-            begun: false,
-        };
+        abandon_if(&mut self.frames, self.notes.is_begun(cell));
+        self.notes.learn(cell, shown);
     }
 
     /// This is the result of a cell that is not on the stack.
@@ -232,12 +231,10 @@ impl<'b> DemandStack<'b> {
         ensures { self.new ≡ with_known self.old (set self.old.known i (Some shown)) }
     {
         law_stands_on();
-        let note = self.notes[i as usize];
-        self.notes[i as usize] = Note {
-            shown: Some(shown),
-            on_stack: note.on_stack,
-            begun: false,
-        };
+        if self.notes.is_known(i as usize) {
+            return;
+        }
+        self.notes.learn(i as usize, shown);
     }
 
     /// The top demands a cell of the stack: the cells from that one up to the top are a cycle. Their evaluations are

@@ -1,66 +1,31 @@
 //! A small caller: all formula cells of a book, which hold nothing else, are pending, and are evaluated alone.
-ghost use Rattle.std.specs.Prelude.{◌≡◌, ◌<◌, true, Some, length, IfOk, IsSome};
+ghost use Rattle.std.specs.Prelude.{◌≡◌, ◌<◌, true, [], length, IfOk, IsSome};
 ghost use Rattle.cell_values.specs.Addresses.{IsOnSheet};
 ghost use Rattle.cell_values.specs.Order.{addresses};
 ghost use Rattle.demand_spec.specs.Book.{formula_at};
 ghost use Rattle.demand_spec.specs.Laws.{In};
-ghost use Rattle.demand_spec.specs.declared.Asked.TheVariants.{Needs};
 ghost use Rattle.workbook_core.specs.Books.{IsWorkbook};
-ghost use Rattle.worker_machine.specs.declared.state.Entry.{Entry as OnStack};
-ghost use Rattle.demand_stack.specs.StackSeen.{IsUnknownTop, ask_entry, top_of};
 
 use crate::DemandStack;
-use cell_values::{Addr, LAST_ROW, SheetNames, Shown, Texts, Value};
+use cell_values::{Addr, LAST_ROW, SheetNames, Texts};
 use demand_spec::{BookView, Results};
-use formula_eval::Asked;
 use std::alloc::Global;
 use std::process::Abort;
 use std::test::Fail;
-use workbook_core::Workbook;
-use worker_machine::Entry;
+use workbook_core::{BookWith, Workbook};
 
-/// The top cell needs a cell that has no value.
-fn need(stack: &mut DemandStack, top: Entry, at: Addr)
-    requires top { IsUnknownTop stack.old top }
-    requires needs { ask_entry stack.old top ≡ Some (Needs at) }
+/// Evaluates one cell after the other until all are known, a thousand at most.
+fn run(stack: &mut DemandStack)
+    requires { stack.old.stack ≡ [] }
+    ensures { stack.new.cells ≡ stack.old.cells }
 {
-    match stack.number_of(at) {
-        None => stack.learn_top(Shown::ToCycle),
-        Some(cell) => match stack.known(cell) {
-            Some(_) => stack.learn_top(Shown::ToCycle),
-            None => {
-                if stack.is_on_stack(cell) {
-                    stack.close(cell);
-                } else {
-                    stack.push(Entry { cell, owed: None });
-                }
-            }
-        },
-    }
-}
-
-/// Works at the top cell.
-fn work(stack: &mut DemandStack, top: Entry)
-    requires { top_of stack.old ≡ Some top }
-{
-    match stack.known(top.cell) {
-        Some(_) => stack.pop(),
-        None => match stack.ask() {
-            Asked::Val(value) => stack.learn_top(Shown::Val(value)),
-            Asked::Needs(at) => need(stack, top, at),
-        },
-    }
-}
-
-/// Works until all cells are known, a thousand times at most.
-fn run(stack: &mut DemandStack) {
     for _ in 0..1000 {
-        match stack.top() {
-            Some(top) => work(stack, top),
-            None => match stack.first_unknown() {
-                Some(cell) => stack.push(Entry { cell, owed: None }),
-                None => return,
-            },
+        let _count = stack.count();
+        match stack.first_unknown() {
+            Some(cell) => {
+                let _shown = stack.evaluate(cell);
+            }
+            None => return,
         }
     }
 }
@@ -159,7 +124,7 @@ fn shows_all(rt: &impl Abort, alloc: Global, book: &Workbook, first: u32) -> Res
         panic!(rt; "no cell {first}");
     }
     let stored = Results::new(alloc);
-    let mut stack = DemandStack::new(alloc, book, &cells, &stored, first)?;
+    let mut stack = DemandStack::new(alloc, BookWith::new(book), &cells, &stored, first)?;
     run(&mut stack);
     assert_eq!(rt; stack.top(), None);
     let mut cell: u32 = 0;

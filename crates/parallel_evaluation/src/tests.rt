@@ -538,6 +538,23 @@ fn a_worker_stops(rt: HostRuntime) -> Result<(), Fail> {
     Ok(())
 }
 
+/// How many steps a worker makes at most in a round over two cells.
+const MOST_STEPS: usize = 48;
+
+// Worker 0 stops after each of its steps: the other one finishes alone, within as many steps as two cells take.
+#[test]
+fn a_worker_stops_after_any_step(rt: HostRuntime) -> Result<(), Fail> {
+    let alloc = rt.alloc();
+    let mut digits = String::new(alloc);
+    for made in 0..=10 {
+        let steps = steps_of(&rt, alloc, TWO_CELLS, &digits, &[0])?;
+        let others = steps.lines().filter(|line| line.starts_with("1 ")).count();
+        assert_eq!(rt; others <= MOST_STEPS, true, "after {made}");
+        digits.push_str("0")?;
+    }
+    Ok(())
+}
+
 /// The formula of what a cell holds.
 fn formula_in(content: Option<Content>) -> Option<ExprId>
     ensures { (p : Trees) → option_map (tree_at p) result ≡ formula_of (option_map (content_in p) content) }

@@ -23,7 +23,7 @@ use claim_core::{Claim, Event, Publish};
 use demand_spec::{Asked, Results};
 use demand_stack::DemandStack;
 use std::alloc::{AllocError, Global};
-use workbook_core::Workbook;
+use workbook_core::{BookWith, Workbook};
 use worker_machine::{Action, Change, Doing, Entry, Next, Store};
 
 // The tag words of a cell that leads into a cycle, and of one that is on a cycle.
@@ -121,7 +121,7 @@ impl<'b> Machine<'b> {
         Ok(Machine {
             number,
             workers,
-            demands: DemandStack::new(alloc, book, cells, stored, first)?,
+            demands: DemandStack::new(alloc, BookWith::new(book), cells, stored, first)?,
             held: None,
             doing: Doing::Free,
             words: ReadWords::new(),

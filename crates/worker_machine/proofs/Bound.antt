@@ -38,7 +38,7 @@ one_less_le true false n m h l = (let x = h refl in cc)
 one_less_le false true n m h l = omega arith
 one_less_le false false n m h l = omega arith
 
-fresh_le : (f g : ℕ → Bool) (n : ℕ) → ((i : ℕ) → i < n → f i ≡ true → g i ≡ true) → fresh_cells g n ≤ fresh_cells f n
+pub fresh_le : (f g : ℕ → Bool) (n : ℕ) → ((i : ℕ) → i < n → f i ≡ true → g i ≡ true) → fresh_cells g n ≤ fresh_cells f n
 fresh_le f g zero h = omega arith
 fresh_le f g (suc n) h = one_less_le (f n) (g n) (fresh_cells f n) (fresh_cells g n) (h n (omega arith)) (fresh_le f g n (λ i l. h i (omega arith)))
 
@@ -48,7 +48,7 @@ one_less_lt true false n m h l = (let x = h refl in cc)
 one_less_lt false true n m h l = omega arith
 one_less_lt false false n m h l = omega arith
 
-fresh_lt : (f g : ℕ → Bool) (n i : ℕ) → i < n → ((k : ℕ) → k < n → f k ≡ true → g k ≡ true) → f i ≡ false → g i ≡ true → fresh_cells g n < fresh_cells f n
+pub fresh_lt : (f g : ℕ → Bool) (n i : ℕ) → i < n → ((k : ℕ) → k < n → f k ≡ true → g k ≡ true) → f i ≡ false → g i ≡ true → fresh_cells g n < fresh_cells f n
 fresh_lt f g zero i l h e d = absurd (omega arith)
 fresh_lt f g (suc n) i l h e d = ⊎_elim
     (λ (s : i ≡ n). here s)
@@ -72,10 +72,10 @@ fresh_all f (suc n) = go (f n) (fresh_all f n)
 
 -- where a cell stays met
 
-abbrev StaysMet : ℕ → KnownList → List Entry → Phase → KnownList → List Entry → Phase → Type 0
+abbrev pub StaysMet : ℕ → KnownList → List Entry → Phase → KnownList → List Entry → Phase → Type 0
 StaysMet m k fs p k' fs' p' = (i : ℕ) → i < m → met_in k fs p i ≡ true → met_in k' fs' p' i ≡ true
 
-abbrev is_known : KnownList → ℕ → Type 0
+abbrev pub is_known : KnownList → ℕ → Type 0
 is_known k i = is_some (get_or k i None) ≡ true
 
 met_known : (k : KnownList) (fs : List Entry) (p : Phase) (i : ℕ) → is_known k i → met_in k fs p i ≡ true
@@ -106,27 +106,27 @@ known_stays (o ∷ k) (suc i) (suc n) r h = known_stays k i n r h
 known_set : (k : KnownList) (i : ℕ) (r : Shown) → i < length k → is_known (set k i (Some r)) i
 known_set k i r l = ap is_some (get_or-set_same k i (Some r) None l)
 
-marks_stay : (m : ℕ) (xs : List ℕ) (k : KnownList) (n : ℕ) → is_known k n → is_known (mark_all m xs k) n
+pub marks_stay : (m : ℕ) (xs : List ℕ) (k : KnownList) (n : ℕ) → is_known k n → is_known (mark_all m xs k) n
 marks_stay m [] k n h = h
 marks_stay m (i ∷ xs) k n h = marks_stay m xs (set k i (Some (Shown.Cycle m))) n (known_stays k i n (Shown.Cycle m) h)
 
-learns_stay : (fs : List Entry) (r : Shown) (k : KnownList) (n : ℕ) → is_known k n → is_known (learn_top fs r k) n
+pub learns_stay : (fs : List Entry) (r : Shown) (k : KnownList) (n : ℕ) → is_known k n → is_known (learn_top fs r k) n
 learns_stay [] r k n h = h
 learns_stay (f ∷ rest) r k n h = known_stays k f.cell n r h
 
 -- a stack whose top is known, without it
-stays_popped : (m : ℕ) (k : KnownList) (f : Entry) (rest : List Entry) (p : Phase) (r : Shown) → get_or k f.cell None ≡ Some r → StaysMet m k (f ∷ rest) p k rest p
+pub stays_popped : (m : ℕ) (k : KnownList) (f : Entry) (rest : List Entry) (p : Phase) (r : Shown) → get_or k f.cell None ≡ Some r → StaysMet m k (f ∷ rest) p k rest p
 stays_popped m k f rest p r e = stays m k (f ∷ rest) p k rest p
     (λ i l h. met_known k rest p i h)
     (λ i l h. ⊎_elim (λ (x : eqb f.cell i ≡ true). met_known k rest p i (subst (λ z. is_known k z) (eqb-true f.cell i x) (ap is_some e))) (λ (x : has i (cells_of rest) ≡ true). met_stack k rest p i x) (or_cases (eqb f.cell i) (has i (cells_of rest)) h))
     (λ i l h. met_phase k rest p i h)
 
 -- more are known, and the rest is as it was
-stays_known : (m : ℕ) (k k' : KnownList) (fs : List Entry) (p : Phase) → ((i : ℕ) → is_known k i → is_known k' i) → StaysMet m k fs p k' fs p
+pub stays_known : (m : ℕ) (k k' : KnownList) (fs : List Entry) (p : Phase) → ((i : ℕ) → is_known k i → is_known k' i) → StaysMet m k fs p k' fs p
 stays_known m k k' fs p h = stays m k fs p k' fs p (λ i l x. met_known k' fs p i (h i x)) (λ i l x. met_stack k' fs p i x) (λ i l x. met_phase k' fs p i x)
 
 -- the cell that was looked at is on the stack now
-stays_pushed : (m : ℕ) (k : KnownList) (fs : List Entry) (p : Phase) (i : ℕ) (o : Option ℕ) → ((n : ℕ) → in_phase n p ≡ true → eqb i n ≡ true) → StaysMet m k fs p k (record { cell = i; owed = o } ∷ fs) Free
+pub stays_pushed : (m : ℕ) (k : KnownList) (fs : List Entry) (p : Phase) (i : ℕ) (o : Option ℕ) → ((n : ℕ) → in_phase n p ≡ true → eqb i n ≡ true) → StaysMet m k fs p k (record { cell = i; owed = o } ∷ fs) Free
 stays_pushed m k fs p i o h = stays m k fs p k (record { cell = i; owed = o } ∷ fs) Free
     (λ n l x. met_known k (record { cell = i; owed = o } ∷ fs) Free n x)
     (λ n l x. met_stack k (record { cell = i; owed = o } ∷ fs) Free n (or_right (eqb i n) (has n (cells_of fs)) x))

@@ -54,12 +54,12 @@ change_within s Take h = pop_below (length s.known) s.stack h
 change_within s (Learn r) h = subst (λ n. EntriesBelow n s.stack) (sym (length-after_change s (Learn r))) h
 change_within s (Close i) h = subst (λ n. EntriesBelow n s.stack) (sym (length-after_change s (Close i))) h
 
-learn_less : (s : State) (t : Top s) (r : Shown) → known_at s t.entry.cell ≡ None → Within s → unknown_in (learn_top s.stack r s.known) < unknown_in s.known
+pub learn_less : (s : State) (t : Top s) (r : Shown) → known_at s t.entry.cell ≡ None → Within s → unknown_in (learn_top s.stack r s.known) < unknown_in s.known
 learn_less s t r e w =
     let below : EntriesBelow (length s.known) (t.entry ∷ t.rest) = subst (EntriesBelow (length s.known)) t.on_top w in
     subst (λ fs. unknown_in (learn_top fs r s.known) < unknown_in s.known) (sym t.on_top) (unknown_less s.known t.entry.cell r below.0 e)
 
-close_less : (s : State) (t : Top s) (i : ℕ) → known_at s t.entry.cell ≡ None → Within s → unknown_in (mark_cycle (part_to i (cells_of s.stack)) s.known) < unknown_in s.known
+pub close_less : (s : State) (t : Top s) (i : ℕ) → known_at s t.entry.cell ≡ None → Within s → unknown_in (mark_cycle (part_to i (cells_of s.stack)) s.known) < unknown_in s.known
 close_less s t i e w =
     let below : EntriesBelow (length s.known) (t.entry ∷ t.rest) = subst (EntriesBelow (length s.known)) t.on_top w in
     subst (λ fs. unknown_in (mark_cycle (part_to i (cells_of fs)) s.known) < unknown_in s.known) (sym t.on_top) (go below.0 (eqb t.entry.cell i))

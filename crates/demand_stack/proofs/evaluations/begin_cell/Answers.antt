@@ -15,17 +15,17 @@ begin-requires-clause-room c =
 pub begin-requires-clause-sound : goal.begin-requires-clause-sound
 begin-requires-clause-sound c =
     let f : formula_at c.args.book.now.book c.args.at ≡ Some (tree_at c.args.book.now.pool c.in-Some.id) = formula_found c.args.book.now.book c.args.at _ _ c.content.ensures.content (c.in-Some.ensures c.args.book.now.pool) in
-    rw c.pool.ensures (formula_cell c.args.book.now c.args.at _ c.content.ensures.workbook f).sound
+    rw c.pool.ensures (formula_cell c.args.book.now c.args.at _ c.content.ensures.askable f).sound
 
 pub begin-requires-clause-meant : goal.begin-requires-clause-meant
 begin-requires-clause-meant c =
     let f : formula_at c.args.book.now.book c.args.at ≡ Some (tree_at c.args.book.now.pool c.in-Some.id) = formula_found c.args.book.now.book c.args.at _ _ c.content.ensures.content (c.in-Some.ensures c.args.book.now.pool) in
-    rw (c.pool.ensures, c.texts.ensures) (formula_cell c.args.book.now c.args.at _ c.content.ensures.workbook f).meant
+    rw (c.pool.ensures, c.texts.ensures.texts) (formula_cell c.args.book.now c.args.at _ c.content.ensures.askable f).meant
 
 pub returns-in-Some-clause-answered : goal.returns-in-Some-clause-answered
 returns-in-Some-clause-answered c =
     let f : formula_at c.args.book.now.book c.args.at ≡ Some (tree_at c.args.book.now.pool c.in-Some.id) = formula_found c.args.book.now.book c.args.at _ _ c.content.ensures.content (c.in-Some.ensures c.args.book.now.pool) in
-    let h = rw (c.pool.ensures, c.texts.ensures) at c.begin.ensures.open in
+    let h = rw (c.pool.ensures, c.texts.ensures.texts) at c.begin.ensures.open in
     answers_cell c.args.book.now (look_in c.args.known.now) c.args.at _ c.args.frames.now.frames c.begin.result c.begin.new.frames.frames f h
 
 pub returns-in-None-clause-answered : goal.returns-in-None-clause-answered

@@ -13,7 +13,7 @@ returns-in-Some-clause-depth c =
 pub returns-in-Some-clause-few : goal.returns-in-Some-clause-few
 returns-in-Some-clause-few c =
     let f : formula_at c.args.book.now.book c.args.at ≡ Some (tree_at c.args.book.now.pool c.in-Some.id) = formula_found c.args.book.now.book c.args.at _ _ c.content.ensures.content (c.in-Some.ensures c.args.book.now.pool) in
-    let small = (formula_cell c.args.book.now c.args.at _ c.content.ensures.workbook f).sound.small in
+    let small = (formula_cell c.args.book.now c.args.at _ c.content.ensures.askable f).sound.small in
     let few = depth_few (tree_at c.args.book.now.pool c.in-Some.id) in
     let same : c.depth.result ≡ depth (tree_at c.args.book.now.pool c.in-Some.id) = c.depth.ensures ∙ ap (λ p. depth (tree_at p c.in-Some.id)) c.pool.ensures in
     omega arith

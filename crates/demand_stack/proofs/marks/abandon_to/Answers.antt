@@ -2,17 +2,14 @@ use Rattle.std.proofs.Common.{◌≡◌, [], length, map, sym, ap, ◌∙◌, su
 use Rattle.worker_machine.specs.Evaluation.{part_to}
 use Rattle.demand_stack.specs.Open.{AreOpen, begun_of}
 use Rattle.demand_stack.specs.Kept.{lower}
-use Rattle.demand_stack.proofs.Downward.{no_entry, none_behind, number_below, open_down, lower_end, lower_on, count_end, count_on, cells_from, stack_cells}
+use Rattle.demand_stack.proofs.Downward.{no_entry, none_behind, open_down, lower_end, lower_on, count_end, count_on, cells_from, stack_cells}
 use Rattle.demand_stack.proofs.marks.abandon_to.Goals as goal
-
-pub bounds-notes-at : goal.bounds-notes-at
-bounds-notes-at c = number_below (length c.args.notes.now) c.args.stack.now c.loop-n.n no_entry c.requires c.loop-n-test.true
 
 pub returns-then-at-cell-clause-open : goal.returns-then-at-cell-clause-open
 returns-then-at-cell-clause-open c p b l f h =
     let e = sym (lower_end c.args.cell c.loop-n.n c.args.stack.now no_entry c.loop-n-test.true c.if-at-cell.true) ∙ c.loop-n.invariant.lower in
     subst (λ z. AreOpen p b l (map f (begun_of c.args.notes.now z)) c.abandon_if.new.frames.frames) e
-    (open_down c.law_drops_to_base.ensures c.args.notes.now c.loop-n.n c.args.stack.now no_entry c.loop-n.frames.frames c.abandon_if.new.frames.frames c.loop-n-test.true c.abandon_if.ensures.frames p b l f (c.loop-n.invariant.open_still p b l f h))
+    (open_down c.law_drops_to_base.ensures c.args.notes.now c.loop-n.n c.args.stack.now no_entry c.loop-n.frames.frames c.abandon_if.new.frames.frames c.loop-n-test.true (rw c.is_begun.ensures at c.abandon_if.ensures.frames) p b l f (c.loop-n.invariant.open_still p b l f h))
 
 pub returns-then-at-cell-clause-count : goal.returns-then-at-cell-clause-count
 returns-then-at-cell-clause-count c =
@@ -37,7 +34,7 @@ returns-clause-open c p b l f h =
 
 pub loop-n-preserved : goal.loop-n-preserved
 loop-n-preserved c = record {
-  open_still = λ p b l f h. open_down c.law_drops_to_base.ensures c.args.notes.now c.loop-n.n c.args.stack.now no_entry c.loop-n.frames.frames c.abandon_if.new.frames.frames c.loop-n-test.true c.abandon_if.ensures.frames p b l f (c.loop-n.invariant.open_still p b l f h);
+  open_still = λ p b l f h. open_down c.law_drops_to_base.ensures c.args.notes.now c.loop-n.n c.args.stack.now no_entry c.loop-n.frames.frames c.abandon_if.new.frames.frames c.loop-n-test.true (rw c.is_begun.ensures at c.abandon_if.ensures.frames) p b l f (c.loop-n.invariant.open_still p b l f h);
   lower = sym (lower_on c.args.cell c.loop-n.n c.args.stack.now no_entry c.loop-n-test.true c.if-at-cell.false) ∙ c.loop-n.invariant.lower;
   counted = (let a = count_on c.args.cell c.loop-n.n c.args.stack.now no_entry c.loop-n-test.true c.if-at-cell.false in let b = c.loop-n.invariant.counted in omega arith);
   room = c.abandon_if.ensures.room ∙ c.loop-n.invariant.room;

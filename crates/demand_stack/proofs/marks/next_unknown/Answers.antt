@@ -14,15 +14,15 @@ pub loop-next-preserved : goal.loop-next-preserved
 loop-next-preserved c =
     known_more (known_of c.args.notes.now) c.args.from c.loop-next.next c.loop-next.invariant
     (let z = length-known c.args.notes.now in let b = c.loop-next-test.true in omega arith)
-    (ap is_some (known_at c.args.notes.now c.loop-next.next) ∙ sym c.is_some.ensures ∙ c.if-is_some.true)
+    (ap is_some (known_at c.args.notes.now c.loop-next.next) ∙ sym c.is_known.ensures ∙ c.if-is_known.true)
 
 none_from : (o : Option Shown) → is_some o ≡ false → o ≡ None
 none_from None e = refl
 none_from (Some r) e = cc
 
-pub returns-else-is_some : goal.returns-else-is_some
-returns-else-is_some c = seen_next (known_of c.args.notes.now) c.args.from c.loop-next.next c.loop-next.invariant
-    (λ l. known_at c.args.notes.now c.loop-next.next ∙ none_from (get_or c.args.notes.now c.loop-next.next blank).shown (sym c.is_some.ensures ∙ c.if-is_some.false))
+pub returns-else-is_known : goal.returns-else-is_known
+returns-else-is_known c = seen_next (known_of c.args.notes.now) c.args.from c.loop-next.next c.loop-next.invariant
+    (λ l. known_at c.args.notes.now c.loop-next.next ∙ none_from (get_or c.args.notes.now c.loop-next.next blank).shown (sym c.is_known.ensures ∙ c.if-is_known.false))
 
 pub returns-after-loop-next : goal.returns-after-loop-next
 returns-after-loop-next c = seen_next (known_of c.args.notes.now) c.args.from c.loop-next.next c.loop-next.invariant

@@ -8,12 +8,12 @@ some : (n : ℕ) → eqb n 0 ≡ false → 1 ≤ n
 some zero e = cc
 some (suc n) e = omega arith
 
-pub new-requires-clause-pending : goal.new-requires-clause-pending
-new-requires-clause-pending g c =
+pub new-requires-2-clause-pending : goal.new-requires-2-clause-pending
+new-requires-2-clause-pending g c =
     let all : c.deref-2.result.now ≡ addresses c.args.book.now.book.cells = c.deref-2.ensures.value ∙ c.in_ok-cells.ensures.cells in
-    all_pending c.args.book.now c.deref-2.result.now c.in_ok-cells.ensures.workbook all (subst (λ z. 1 ≤ z) (sym c.deref-2.ensures.len) (some _ (sym c.is_empty.ensures ∙ c.if-is_empty.false))) (λ a m. c.are_formulas.ensures c.if-not-are_formulas.false a (subst (In a) (c.deref-2.ensures.value ∙ sym c.deref.ensures.value) m))
+    rw c.new.ensures (all_pending c.args.book.now c.deref-2.result.now c.in_ok-cells.ensures.workbook all (subst (λ z. 1 ≤ z) (sym c.deref-2.ensures.len) (some _ (sym c.is_empty.ensures ∙ c.if-is_empty.false))) (λ a m. c.are_formulas.ensures c.if-not-are_formulas.false a (subst (In a) (c.deref-2.ensures.value ∙ sym c.deref.ensures.value) m)))
 
-pub new-requires-clause-stored : goal.new-requires-clause-stored
-new-requires-clause-stored g c =
+pub new-requires-2-clause-stored : goal.new-requires-2-clause-stored
+new-requires-2-clause-stored g c =
     let all : c.deref-2.result.now ≡ addresses c.args.book.now.book.cells = c.deref-2.ensures.value ∙ c.in_ok-cells.ensures.cells in
-    none_stored c.args.book.now c.deref-2.result.now c.in_ok-cells.ensures.workbook all c.new-stored.result.entries
+    rw c.new.ensures (none_stored c.args.book.now c.deref-2.result.now c.in_ok-cells.ensures.workbook all c.new-stored.result.entries)
