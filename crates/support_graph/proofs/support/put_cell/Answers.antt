@@ -9,8 +9,8 @@ use Rattle.support_graph.proofs.support.put_cell.Goals as goal
 
 pub returns-in-Ok-clause-ok : goal.returns-in-Ok-clause-ok
 returns-in-Ok-clause-ok c q =
-    let same : c.extend_from_slice.new.self.items ≡ c.args.areas.now = search rules in
-    changed_listed c.args.cells.now.entries c.insert.new.self.entries c.args.cell (Some c.extend_from_slice.new.self) c.in-Ok.ensures.updates.0 q ∙ (λ i. cond {A = Option (List Area)} (same_addr c.args.cell q) (Some (same i)) (entry_at (listed c.args.cells.now.entries) q))
+    let same : c.in_ok-list.list.items ≡ c.args.areas.now = search rules in
+    changed_listed c.args.cells.now.entries c.insert.new.self.entries c.args.cell (Some c.in_ok-list.list) c.in-Ok.ensures.updates.0 q ∙ (λ i. cond {A = Option (List Area)} (same_addr c.args.cell q) (Some (same i)) (entry_at (listed c.args.cells.now.entries) q))
 
 pub returns-in-Ok-clause-indexed : goal.returns-in-Ok-clause-indexed
 returns-in-Ok-clause-indexed c =
