@@ -15,7 +15,7 @@ pub never_reached : (b : Book) (c : Addr) → Reached b (OfSet (λ _. false)) c 
 never_reached b c (start c' h) = cc
 never_reached b c (step a c' r m) = never_reached b a r
 
-never_false : {X : Type 0} → false ≡ true → X
+pub never_false : {X : Type 0} → false ≡ true → X
 never_false e = absurd cc
 
 pub progress_moved : (b b' : Book) (n : ℕ) (A : Set) (p : Progress) → SameOutside (OfSet A) b b' → TextsStay (λ i. i < n) b b' → IsProgress b p → IsProgressBut b' A p

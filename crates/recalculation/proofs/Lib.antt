@@ -11,3 +11,6 @@ pub mod Storing
 pub mod Marked
 pub mod Ready
 pub mod PlainBooks
+pub mod Carried
+pub mod Shifted
+pub mod Searched

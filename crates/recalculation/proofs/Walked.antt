@@ -44,7 +44,7 @@ next_after (y ∷ cells) o x e = go (lies_after o y.0) refl e (next_after cells 
     go false h k rest = rest k
 
 -- no cell lies behind the last one
-next_none : (cells : Cells) (o : Option Addr) → next_in cells o ≡ None → (c : Addr) → lies_after o c ≡ true → entry_at cells c ≡ None
+pub next_none : (cells : Cells) (o : Option Addr) → next_in cells o ≡ None → (c : Addr) → lies_after o c ≡ true → entry_at cells c ≡ None
 next_none [] o e c l = refl
 next_none (y ∷ cells) o e c l = go (lies_after o y.0) refl e (same_addr c y.0) refl (λ k. next_none cells o k c l)
   where
@@ -58,7 +58,7 @@ none_here None h = refl
 none_here (Some d) h = absurd (h d refl)
 
 -- nor between an address and the next cell
-none_between : (cells : Cells) → InOrder (addresses cells) → (o : Option Addr) (x : Addr) → next_in cells o ≡ Some x → (c : Addr) → lies_after o c ≡ true → is_before x c ≡ false → same_addr x c ≡ false → entry_at cells c ≡ None
+pub none_between : (cells : Cells) → InOrder (addresses cells) → (o : Option Addr) (x : Addr) → next_in cells o ≡ Some x → (c : Addr) → lies_after o c ≡ true → is_before x c ≡ false → same_addr x c ≡ false → entry_at cells c ≡ None
 none_between [] order o x e c l n m = refl
 none_between (y ∷ cells) order o x e c l n m = go (lies_after o y.0) refl e (same_addr c y.0) refl (λ k. none_between cells order.1 o x k c l n m)
   where

@@ -2,3 +2,4 @@ pub mod Calculations
 pub mod Edits
 pub mod Standing
 pub mod Written
+pub mod Shifts

@@ -1,6 +1,6 @@
 //! A workbook with what its cells show, as far as it is computed.
 
-ghost use Rattle.std.specs.Prelude.{◌≡◌, ℕ, ◌≤◌, ◌<◌, ◌++◌, [], length, All, option_map, IfOk, OnOk, OnErr, IfErr, MatchResult, MatchOption};
+ghost use Rattle.std.specs.Prelude.{◌≡◌, false, ℕ, ◌≤◌, ◌<◌, ◌++◌, [], length, All, option_map, IfOk, OnOk, OnErr, IfErr, MatchResult, MatchOption};
 ghost use Rattle.cell_values.specs.Fields.{raw_of, IsRawOf};
 ghost use Rattle.cell_values.specs.Interned.{KeepsTexts};
 ghost use Rattle.cell_values.specs.Values.{IsShownOf};
@@ -14,14 +14,21 @@ ghost use Rattle.parallel_evaluation.specs.Order.{run_order};
 ghost use Rattle.parallel_evaluation.specs.Summaries.{IsSummaryOf};
 ghost use Rattle.recalculation.specs.Calculations.{has_result, stored_at, AreResultsOf};
 ghost use Rattle.recalculation.specs.Standing.{pending_in, seen, IsProgress};
+ghost use Rattle.row_shift.specs.Moves.{IsChange};
+ghost use Rattle.row_shift.specs.MovedBook.{moved_book, pending_moved};
+ghost use Rattle.row_shift.specs.Pushed.{pushes_out};
+ghost use Rattle.recalculation.specs.Shifts.{IsShiftFault};
 ghost use Rattle.recalculation.specs.Edits.{area_of, pending_by, IsEditOf, IsEdited, PutsFault, MakesTooLarge, IsFaultOf, IsLeft};
 
 use crate::book::{area, change, known};
 use crate::edit::Edit;
 use crate::progress::Progress;
+use crate::shift::{ShiftFault, shift_both};
 use cell_values::{Addr, Raw, Shown, Value};
 use demand_spec::{BookView, Results};
+use moved_books::pushes_out;
 use parallel_evaluation::{Summary, Traced};
+use row_shift::RowChange;
 use std::alloc::{AllocError, Global};
 use std::marker::{Model, Sync};
 use std::thread::Threads;
@@ -110,6 +117,28 @@ impl Calc {
         ensures kept_trees { KeepsTrees self.old.shared.pool self.new.shared.pool }
     {
         edit_both(&mut self.book, &mut self.progress, edit)
+    }
+
+    /// Inserts or deletes rows. The cells below move, and what formulas name moves along; formula cells that lose a
+    /// reference or a range, or of which a range gets more rows or fewer, are pending then, with all that depends on them.
+    /// Every other result stays.
+    ///
+    /// An insertion that would push a cell that is not empty past the last row is refused. That, and want of memory, leaves
+    /// all as it was.
+    pub fn shift_rows(&mut self, change: RowChange) -> Result<(), ShiftFault>
+        requires { IsChange change }
+        ensures ok { OnOk result (self.new.shared.book ≡ moved_book change self.old.shared.book) }
+        ensures pending { OnOk result (self.new.pending ≡ pending_moved change self.old.shared.book self.old.pending) }
+        ensures fits { OnOk result (pushes_out change self.old.shared.book.cells ≡ false) }
+        ensures fault { IfErr result (IsShiftFault change self.old.shared.book.cells) }
+        ensures names { self.new.shared.names ≡ self.old.shared.names }
+        ensures err { OnErr result (self.new ≡ self.old) }
+    {
+        if pushes_out(&self.book, change) {
+            return Err(ShiftFault::RowsFull);
+        }
+        shift_both(&mut self.book, &mut self.progress, change)?;
+        Ok(())
     }
 
     /// Builds what tells which cells an edit leaves pending, if that was not done since the workbook came or since

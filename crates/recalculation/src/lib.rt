@@ -11,6 +11,9 @@ mod progress;
 #[cfg(test)]
 mod round_tests;
 mod rounds;
+pub mod shift;
+#[cfg(test)]
+mod shift_tests;
 mod store;
 #[cfg(test)]
 mod tests;
@@ -18,4 +21,5 @@ mod tests;
 pub use calc::Calc;
 pub use edit::Edit;
 pub use parallel_evaluation::{Counts, Summary, Traced};
+pub use shift::ShiftFault;
 pub use worker_machine::{Kind, NoPace, Pace};

@@ -53,5 +53,6 @@ pub(crate) fn support_of(alloc: Global, book: &Workbook) -> Result<Support, Allo
         link(alloc, &mut support, book, at)?;
         after = Some(at);
     }
+    support.pack()?;
     Ok(support)
 }

@@ -133,7 +133,7 @@ impl Progress {
 }
 
 /// What holds of all lists of pending cells, as their count tells it.
-fn ordered(stale: &Stale)
+pub(crate) fn ordered(stale: &Stale)
     ensures { InOrder stale.now }
 {
     let _count = stale.len();

@@ -113,7 +113,7 @@ fn shows_all(rt: &impl Abort, alloc: Global, calc: &Calc, lines: &str) -> Result
 }
 
 /// Each formula cell shows what rounds over the whole workbook give; so many there are.
-fn shows_as_defined(rt: &impl Abort, alloc: Global, calc: &Calc) -> Result<u32, Fail>
+pub(crate) fn shows_as_defined(rt: &impl Abort, alloc: Global, calc: &Calc) -> Result<u32, Fail>
     requires { calc.now.pending ≡ [] }
 {
     let book = calc.book();

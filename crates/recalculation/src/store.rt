@@ -13,8 +13,8 @@ use demand_spec::Results;
 use std::alloc::{AllocError, Global};
 use workbook_core::Workbook;
 
-// Stores a result. Where something stood there, no memory is taken.
-fn store(stored: &mut Results, at: Addr, shown: Shown) -> Result<(), AllocError>
+/// Stores a result. Where something stood there, no memory is taken.
+pub(crate) fn store(stored: &mut Results, at: Addr, shown: Shown) -> Result<(), AllocError>
     ensures ok { OnOk result ((q : Cell) → entry_at stored.new.entries q ≡ cond (same_addr at q) (Some shown) (entry_at stored.old.entries q)) }
     ensures absent { OnErr result (entry_at stored.old.entries at ≡ None) }
     ensures err { OnErr result (stored.new.entries ≡ stored.old.entries) }
