@@ -1,7 +1,15 @@
 //! What a line of a script asks for, and why a line is refused.
 
-use cell_values::{Addr, Area, FieldText};
+use cell_values::{Addr, Area, FieldText, Int};
 use std::alloc::AllocError;
+
+/// A row of a sheet and a number of rows, each from 1 to the last row.
+#[derive(Clone, Copy, Debug, PartialEq, Eq)]
+pub struct Rows {
+    pub sheet: u8,
+    pub row: u32,
+    pub count: u32,
+}
 
 /// What a line asks for.
 #[derive(Drop)]
@@ -24,6 +32,13 @@ pub enum Line {
     Recalc,
     /// The cycles are listed.
     Cycles,
+    /// So many empty rows are inserted above a row of a sheet: it and those below it are pushed down.
+    Insert(Rows),
+    /// So many rows of a sheet, from one on, are deleted: those below them move up. The last of them lies on the sheet.
+    Delete(Rows),
+    /// For each number from one on, of so many from 1 to 1,000, the last cell is shown as it would be with that number in
+    /// the first cell.
+    WhatIf(Addr, Int, u32, Addr),
 }
 
 /// Why a line is refused.
@@ -31,8 +46,8 @@ pub enum Line {
 pub enum LineFault {
     /// E1: the command is none that there is.
     UnknownCommand,
-    /// E2: a cell, an area or a sheet's name is missing, has another form, lies outside the sheets or has too many
-    /// cells, or something stands behind the command's words.
+    /// E2: a cell, an area, a sheet's name or a number is missing, has another form, lies outside the sheets, is too
+    /// large or has too many cells, there are too many numbers or none, or something stands behind the command's words.
     BadReference,
     /// E5: the bytes are no UTF-8.
     NotUtf8,

@@ -1,18 +1,23 @@
 //! The reading of a line.
 
 ghost use Rattle.std.specs.Prelude.{◌≡◌, ◌<◌, length, Ok, IfOk, IfErr, IfSome};
-ghost use Rattle.edit_script.specs.Lines.{alone, command_in, copy_in, line_in, line_of, or_bad, set_in, trimmed_command, IsFaultOf, IsLineOf};
-ghost use Rattle.edit_script.specs.Targets.{sheet_in, target_in};
+ghost use Rattle.edit_script.specs.Lines.{alone, command_in, copy_in, line_in, line_of, or_bad, set_in, trimmed_command, what_if_in, what_if_of, IsFaultOf, IsLineOf};
+ghost use Rattle.edit_script.specs.Numbers.{IsRange};
+ghost use Rattle.edit_script.specs.Rows.{if_within, rows_in};
+ghost use Rattle.edit_script.specs.Targets.{sheet_in, target_in, IsCellOf};
 ghost use Rattle.edit_script.specs.declared.line.Line.{Line};
-ghost use Rattle.std.specs.Option.{option_map};
+ghost use Rattle.std.specs.Option.{option_map, option_and_then};
 
+use crate::numbers::read_range;
 use crate::pieces::{behind_spaces, split_at_mark, without_cr, without_end_spaces};
+use crate::rows::{if_within, read_rows};
 use crate::targets::{read_area, read_sheet, read_target, split_target};
 use crate::{Line, LineFault};
-use cell_values::{FieldText, SheetNames};
+use cell_values::{Addr, FieldText, Int, SheetNames};
 use std::alloc::Global;
 
-/// Reads a line of a script: `set`, `clear`, `copy`, `show`, `print`, `save`, `recalc`, `cycles`, a comment or an empty line.
+/// Reads a line of a script: `set`, `clear`, `copy`, `show`, `print`, `save`, `recalc`, `cycles`, `insert`,
+/// `delete`, `whatif`, a comment or an empty line.
 ///
 /// The line is without its LF; one CR at its end is dropped. The bytes have to be UTF-8, comments included; then the
 /// command has to be one of these, and then what stands behind it has to be right: the first of these that fails is the
@@ -79,6 +84,7 @@ fn read_set(alloc: Global, text: &str, sheets: &SheetNames) -> Result<Line, Line
 }
 
 /// Reads what stands behind a command other than `set`.
+#[tactic(auto, unfolding(crate::specs::Lines::trimmed_command))]
 fn read_trimmed(command: &str, text: &str, sheets: &SheetNames) -> Result<Line, LineFault>
     requires { 0 < length sheets.now }
     ensures ok { IfOk result (λ line. trimmed_command sheets.now command.now text.now ≡ Ok line) }
@@ -93,6 +99,9 @@ fn read_trimmed(command: &str, text: &str, sheets: &SheetNames) -> Result<Line, 
         "save" => or_bad(read_save(text, sheets)),
         "recalc" => or_bad(read_alone(Line::Recalc, text)),
         "cycles" => or_bad(read_alone(Line::Cycles, text)),
+        "insert" => or_bad(read_insert(text, sheets)),
+        "delete" => or_bad(read_delete(text, sheets)),
+        "whatif" => or_bad(read_what_if(text, sheets)),
         _ => Err(LineFault::UnknownCommand),
     }
 }
@@ -144,6 +153,60 @@ fn read_copy(text: &str, sheets: &SheetNames) -> Option<Line>
 {
     let (from, area) = split_target(sheets, text);
     Some(Line::Copy(from?, read_area(sheets, area)?))
+}
+
+fn read_insert(text: &str, sheets: &SheetNames) -> Option<Line>
+    requires { 0 < length sheets.now }
+    ensures same { result ≡ option_map Line.Insert (rows_in sheets.now text.now) }
+    ensures within { IfSome result (IsLineOf sheets.now) }
+{
+    Some(Line::Insert(read_rows(sheets, text)?))
+}
+
+fn read_delete(text: &str, sheets: &SheetNames) -> Option<Line>
+    requires { 0 < length sheets.now }
+    ensures same { result ≡ option_map Line.Delete (option_and_then if_within (rows_in sheets.now text.now)) }
+    ensures within { IfSome result (IsLineOf sheets.now) }
+{
+    let rows = read_rows(sheets, text)?;
+    Some(Line::Delete(if_within(sheets, rows)?))
+}
+
+/// Reads a cell, two numbers and a cell, with one space between them.
+fn read_what_if(text: &str, sheets: &SheetNames) -> Option<Line>
+    requires { 0 < length sheets.now }
+    ensures same { result ≡ what_if_in sheets.now text.now }
+    ensures within { IfSome result (IsLineOf sheets.now) }
+{
+    let (at, low) = split_target(sheets, text);
+    let (low, high) = split_at_mark(low, ' ');
+    let (high, target) = split_at_mark(high, ' ');
+    what_if(
+        sheets,
+        at,
+        read_range(low, high),
+        read_target(sheets, target),
+    )
+}
+
+/// A table's line, if all its parts are there.
+fn what_if(
+    sheets: &SheetNames,
+    at: Option<Addr>,
+    range: Option<(Int, u32)>,
+    target: Option<Addr>,
+) -> Option<Line>
+    requires at { IfSome at (IsCellOf sheets.now) }
+    requires range { IfSome range (λ range. IsRange range.0 range.1) }
+    requires target { IfSome target (IsCellOf sheets.now) }
+    ensures same { result ≡ what_if_of at range target }
+    ensures within { IfSome result (IsLineOf sheets.now) }
+{
+    let _sheets = sheets;
+    match (at, range, target) {
+        (Some(at), Some((low, count)), Some(target)) => Some(Line::WhatIf(at, low, count, target)),
+        _ => None,
+    }
 }
 
 /// A command with nothing behind it.

@@ -4,7 +4,7 @@ ghost use Rattle.cell_values.specs.Addresses.{IsOnSheet};
 ghost use Rattle.cell_values.specs.Areas.{IsArea};
 ghost use Rattle.edit_script.specs.Lines.{IsLineOf};
 
-use crate::{Line, LineFault, read_line};
+use crate::{Line, LineFault, Rows, read_line};
 use cell_values::{Addr, Area, SheetNames};
 use std::alloc::{AllocError, Global};
 use std::test::Fail;
@@ -126,6 +126,56 @@ const LINES: &str = "
     cycles=>cycles
     cycles A1=>E2
     cycle=>E1
+    insert 2 1=>insert 0 2 1
+    insert 1 65536=>insert 0 1 65536
+    insert 65536 65536 my plan=>insert 1 65536 65536
+    insert~~9 10 2024~=>insert 2 9 10
+    insert 1 1~~=>insert 0 1 1
+    insert=>E2
+    insert 1=>E2
+    insert 0 1=>E2
+    insert 1 0=>E2
+    insert 65537 1=>E2
+    insert 1 65537=>E2
+    insert 01 1=>E2
+    insert 1 01=>E2
+    insert +1 1=>E2
+    insert 1 -1=>E2
+    insert 1~~1=>E2
+    insert A1 1=>E2
+    insert 1 1 no plan=>E2
+    insert 1 1 'my plan'=>E2
+    insert 1 1~~my plan=>E2
+    inserts 1 1=>E1
+    delete 1 65536=>delete 0 1 65536
+    delete 65536 1 a:b=>delete 3 65536 1
+    delete 3 65534=>delete 0 3 65534
+    delete 3 65535=>E2
+    delete 65536 2=>E2
+    delete 2 65536 my plan=>E2
+    delete 1 1 1=>E2
+    delete 1 1 my plan~=>delete 1 1 1
+    delete 00 1=>E2
+    Delete 1 1=>E1
+    whatif A1 1 3 B1=>whatif 0 A1 1 3 0 B1
+    whatif A1 -1 0 B1=>whatif 0 A1 -1 2 0 B1
+    whatif A1 7 7 A1~=>whatif 0 A1 7 1 0 A1
+    whatif 'my plan'!A1 05 6 'a:b'!C3=>whatif 1 A1 5 2 3 C3
+    whatif A1 1 1000 B1=>whatif 0 A1 1 1000 0 B1
+    whatif A1 1 1001 B1=>E2
+    whatif A1 3 2 B1=>E2
+    whatif A1 +1 2 B1=>E2
+    whatif A1 1 x B1=>E2
+    whatif A1 1 2=>E2
+    whatif A1 1 B1=>E2
+    whatif A1 1 2 B1 C1=>E2
+    whatif A1~~1 2 B1=>E2
+    whatif A0 1 2 B1=>E2
+    whatif A1 170141183460469231731687303715884105727 170141183460469231731687303715884105727 B1=>whatif 0 A1 170141183460469231731687303715884105727 1 0 B1
+    whatif A1 170141183460469231731687303715884105727 170141183460469231731687303715884105728 B1=>E2
+    whatif A1 -170141183460469231731687303715884105728 170141183460469231731687303715884105727 B1=>E2
+    whatif=>E2
+    Whatif A1 1 3 B1=>E1
     é=>E1
     set A1 é=>set 0 A1 [é]
     set 'é'!A1 x=>E2
@@ -133,7 +183,7 @@ const LINES: &str = "
 ";
 
 /// How many lines the table has.
-const COUNT: usize = 118;
+const COUNT: usize = 168;
 
 fn unspelled(alloc: Global, text: &str) -> Result<String, AllocError> {
     let mut line = String::new(alloc);
@@ -172,6 +222,11 @@ fn push_area(alloc: Global, text: &mut String, area: Area) -> Result<(), AllocEr
     write!(text, ":{last}")
 }
 
+fn push_rows(text: &mut String, word: &str, rows: Rows) -> Result<(), AllocError> {
+    text.push_str(word)?;
+    write!(text, " {} {} {}", rows.sheet, rows.row, rows.count)
+}
+
 /// What a line asks for, as the table spells it.
 fn spell(alloc: Global, sheets: &SheetNames, line: &Line) -> Result<String, AllocError>
     requires { IsLineOf sheets.now line.now }
@@ -202,6 +257,14 @@ fn spell(alloc: Global, sheets: &SheetNames, line: &Line) -> Result<String, Allo
         Line::Save(sheet) => write!(text, "save {sheet}")?,
         Line::Recalc => text.push_str("recalc")?,
         Line::Cycles => text.push_str("cycles")?,
+        Line::Insert(rows) => push_rows(&mut text, "insert", *rows)?,
+        Line::Delete(rows) => push_rows(&mut text, "delete", *rows)?,
+        Line::WhatIf(at, low, count, target) => {
+            text.push_str("whatif")?;
+            push_cell(alloc, &mut text, *at)?;
+            write!(text, " {low} {count}")?;
+            push_cell(alloc, &mut text, *target)?;
+        }
     }
     Ok(text)
 }

@@ -14,3 +14,5 @@ pub mod Scripts
 pub mod Sums
 pub mod Tracing
 pub mod Written
+pub mod Tabled
+pub mod Rowed

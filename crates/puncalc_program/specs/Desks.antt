@@ -8,6 +8,7 @@ use Rattle.formula_grammar.specs.Reading.{Reading}
 use Rattle.workbook_core.specs.declared.edits.EditFault.{EditFault}
 use Rattle.workbook_core.specs.Books.{SharedBook}
 use Rattle.recalculation.specs.declared.edit.Edit.{Edit}
+use Rattle.recalculation.specs.declared.shift.ShiftFault.{ShiftFault}
 use Rattle.recalculation.specs.Calculations.{Calculation}
 use Rattle.sheet_loading.specs.Contents.{Names, content_read}
 use Rattle.puncalc_program.specs.declared.refusals.LineRefusal.{LineRefusal}
@@ -60,6 +61,12 @@ edit_answer (Ok _) = Ok None
 edit_answer (Err (EditFault.BadFormula place kind)) = Ok (Some (LineRefusal.BadFormula place kind))
 edit_answer (Err EditFault.TooManyCells) = Ok (Some LineRefusal.TooManyCells)
 edit_answer (Err EditFault.OutOfMemory) = Err Stop.Memory
+
+-- what a change of rows came to, as the answer of a line
+abbrev pub rows_answer : Result (Unit {0}) ShiftFault → Result (Option LineRefusal) Stop
+rows_answer (Ok _) = Ok None
+rows_answer (Err ShiftFault.RowsFull) = Ok (Some LineRefusal.RowsFull)
+rows_answer (Err ShiftFault.OutOfMemory) = Err Stop.Memory
 
 -- the pieces that a turn writes
 abbrev pub pieces_of : Turn → List (List ℕ)

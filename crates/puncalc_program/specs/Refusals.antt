@@ -37,6 +37,7 @@ line_fault LineRefusal.BadReference = codes ": E2"
 line_fault (LineRefusal.BadFormula place kind) = formula_fault place kind
 line_fault LineRefusal.TooManyCells = codes ": E4"
 line_fault LineRefusal.NotUtf8 = codes ": E5"
+line_fault LineRefusal.RowsFull = codes ": E7"
 line_fault LineRefusal.FormulaTooLong = codes ": E8"
 
 -- a line is refused; the lines are counted from 1

@@ -1,18 +1,23 @@
 -- What the lines of a script do, one after the other.
-use Rattle.std.specs.Prelude.{ℕ, suc, List, [], ◌∷◌, ◌++◌, Option, Some, None, Result, Ok, Err, ◌==◌, nat_lt, length, map, codes, if◌then◌else◌}
+use Rattle.std.specs.Prelude.{ℕ, suc, ℤ, pos, ◌+ℤ◌, List, [], ◌∷◌, ◌++◌, Option, Some, None, Result, Ok, Err, ◌==◌, nat_lt, length, map, codes, if◌then◌else◌}
 use Rattle.std.specs.Fmt.{decimal}
 use Rattle.std.specs.List.{slice_split}
 use Rattle.cell_values.specs.declared.TheConstants.{MAX_BOOK_CELLS}
 use Rattle.cell_values.specs.declared.address.Addr.{Addr}
 use Rattle.cell_values.specs.declared.address.Area.{Area}
-use Rattle.cell_values.specs.Areas.{is_inside, one_cell}
+use Rattle.cell_values.specs.Areas.{is_inside, numbers_from, one_cell}
 use Rattle.cell_values.specs.Fields.{raw_of}
+use Rattle.cell_values.specs.ShownText.{int_text}
 use Rattle.formula_grammar.specs.declared.faults.FaultKind.{FaultKind}
 use Rattle.formula_grammar.specs.Reading.{Reading}
 use Rattle.sheet_csv.specs.Row.{row_text}
 use Rattle.demand_spec.specs.Book.{Book, formulas}
 use Rattle.demand_spec.specs.Edits.{Edit, Put, Copy, applied, pending_after}
 use Rattle.claim_core.specs.Rule.{Setup}
+use Rattle.row_shift.specs.declared.change.RowChange.{RowChange}
+use Rattle.row_shift.specs.MovedBook.{moved_book, pending_moved}
+use Rattle.row_shift.specs.Pushed.{pushes_out}
+use Rattle.workbook_core.specs.WithNumber.{with_number}
 use Rattle.book_save.specs.Rows.{first_long, saved_rows}
 use Rattle.cycle_finder.specs.Loops.{loops}
 use Rattle.sheet_loading.specs.Contents.{Names, Made, content_read}
@@ -76,6 +81,26 @@ abbrev pub saved_unless : Standing → List (List ℕ) → Option Addr → Turn
 saved_unless st rows None = Goes st rows
 saved_unless st rows (Some at) = Stops LineRefusal.FormulaTooLong
 
+-- a number, and what a cell shows where another cell holds it, in a row
+abbrev pub number_row : Book → Addr → Addr → ℤ → List ℕ
+number_row b at target n = row_text (int_text n ∷ cell_shows (with_number b at n) target ∷ [])
+
+-- the same for the number that comes k behind another
+abbrev pub scenario_row : Book → Addr → ℤ → Addr → ℕ → List ℕ
+scenario_row b at low target k = number_row b at target (low +ℤ pos k)
+
+-- a row for each of so many numbers is written, unless the book with the first one has too many cells
+abbrev pub table_turn : ℕ → Addr → ℤ → ℕ → Addr → Standing → Turn
+table_turn workers at low count target st =
+    if nat_lt MAX_BOOK_CELLS (length (with_number st.book at low).cells) then Stops LineRefusal.TooManyCells
+    else Goes (recalculated workers st) (map (scenario_row st.book at low target) (numbers_from 0 count))
+
+-- rows are inserted or deleted, unless a cell is pushed out
+abbrev pub rows_turn : RowChange → Standing → Turn
+rows_turn change st =
+    if pushes_out change st.book.cells then Stops LineRefusal.RowsFull
+    else Goes (record { book = moved_book change st.book; pending = pending_moved change st.book st.pending; last = st.last }) []
+
 -- what each kind of line does; what is shown is recalculated before
 unfoldable pub turn : Reading → Names → ℕ → Line → Standing → Turn
 turn read names workers Line.Nothing st = Goes st []
@@ -87,6 +112,9 @@ turn read names workers (Line.Print sheet) st = Goes (recalculated workers st) (
 turn read names workers (Line.Save sheet) st = saved_unless st (saved_rows names st.book sheet) (first_long names st.book sheet)
 turn read names workers Line.Recalc st = Goes (recalculated workers st) (count_line (codes "recalculated") (length st.pending) ∷ [])
 turn read names workers Line.Cycles st = Goes (recalculated workers st) (count_line (codes "cycles") (length (loops st.book)) ∷ map (loop_row names) (loops st.book))
+turn read names workers (Line.Insert rows) st = rows_turn (RowChange.Insert rows.sheet rows.row rows.count) st
+turn read names workers (Line.Delete rows) st = rows_turn (RowChange.Delete rows.sheet rows.row rows.count) st
+turn read names workers (Line.WhatIf at low count target) st = table_turn workers at low count target st
 
 -- why a line that asks for nothing is refused; want of memory is no fault of a line, and what stands here for it is never due
 abbrev pub refusal_of : LineFault → LineRefusal

@@ -5,6 +5,8 @@
 mod commands;
 mod demo;
 mod desk;
+#[cfg(test)]
+mod device_tests;
 mod files;
 mod formulas;
 mod input;

@@ -16,8 +16,8 @@ use std::alloc::{AllocError, Global};
 pub enum LineRefusal {
     /// E1: its command is none that there is.
     UnknownCommand,
-    /// E2: a cell, an area or a sheet's name in it is missing, has another form or lies outside the sheets, or something
-    /// stands behind the command's words.
+    /// E2: a cell, an area, a sheet's name or a number in it is missing, has another form or lies outside the sheets, or
+    /// something stands behind the command's words.
     BadReference,
     /// E3: it puts a formula with a fault: its place, counted in bytes from 0 at the `=`, and the fault.
     BadFormula(u32, FaultKind),
@@ -25,6 +25,8 @@ pub enum LineRefusal {
     TooManyCells,
     /// E5: its bytes are no UTF-8.
     NotUtf8,
+    /// E7: it inserts rows that would push a cell that is not empty past the last row.
+    RowsFull,
     /// E8: it saves a sheet with a formula that prints to more than 1,024 bytes, and would not be read again.
     FormulaTooLong,
 }
@@ -115,6 +117,7 @@ pub(crate) fn line_fault(alloc: Global, why: LineRefusal) -> Result<String, Allo
         LineRefusal::BadFormula(place, kind) => formula_fault(alloc, place, kind),
         LineRefusal::TooManyCells => String::from_str(alloc, ": E4"),
         LineRefusal::NotUtf8 => String::from_str(alloc, ": E5"),
+        LineRefusal::RowsFull => String::from_str(alloc, ": E7"),
         LineRefusal::FormulaTooLong => String::from_str(alloc, ": E8"),
     }
 }
