@@ -1,3 +1,4 @@
+//! Books saved and read back, and rows worked out by hand from the rules of CSV.
 ghost use Rattle.std.specs.Prelude.{◌≡◌, ◌<◌, ◌≤◌, length, IfOk};
 
 use crate::{SaveFault, save_sheet};

@@ -1,3 +1,5 @@
+//! Devices in memory and in a folder that fail at each call in turn.
+
 use crate::{
     Failed, FetchFault, Folder, MemFolder, MemSink, MemSource, PlainFolder, PlainSink, PlainSource,
     ReadFault, Sink, Source, StdFolder, StdSink, StdSource, read_all, write_whole,

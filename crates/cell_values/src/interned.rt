@@ -1,6 +1,6 @@
 //! Texts, each kept once.
 
-ghost use Rattle.std.specs.Prelude.{◌≡◌, List, [], ◌∷◌, ◌++◌, length, IfOk, OnErr};
+ghost use Rattle.std.specs.Prelude.{◌≡◌, List, [], ◌∷◌, ◌++◌, length, IfOk, OnErr, All};
 
 use std::alloc::{AllocError, Global};
 use std::collections::BTreeMap;
@@ -33,6 +33,7 @@ impl Model for Texts {
 }
 
 impl Texts {
+    ghost use Rattle.std.specs.Str.{IsUtf8};
     ghost use Rattle.cell_values.specs.Texts.{IsTextOf, text_at};
     ghost use Rattle.cell_values.specs.Interned.{number_of, interned, AreDistinct, KeepsTexts};
 
@@ -45,6 +46,15 @@ impl Texts {
             texts: Vec::new(alloc),
             numbers: BTreeMap::new(alloc),
         }
+    }
+
+    /// How many texts there are.
+    pub fn count(&self) -> usize
+        ensures count { result ≡ length self.now }
+        ensures distinct { AreDistinct self.now }
+        ensures utf8 { All IsUtf8 self.now }
+    {
+        self.texts.len()
     }
 
     /// The text with this number.

@@ -38,6 +38,7 @@ fn reads_fields_and_shows_values(rt: HostRuntime) -> Result<(), Fail> {
     let mut texts = Texts::new(alloc);
     assert_eq!(rt; texts.intern("x")?.0, 0);
     assert_eq!(rt; texts.intern("x")?.0, 0);
+    assert_eq!(rt; texts.count(), 1);
     let number = Shown::Val(Value::Number(-3)).show_text(alloc, &texts)?;
     assert_eq!(rt; number.as_str(), "-3");
     assert_eq!(rt;

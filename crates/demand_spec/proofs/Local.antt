@@ -43,6 +43,7 @@ mutual
 
 -- Law: what a cell needs
 
+-- a formula that asks for a cell names it, and nothing is known of it yet
 pub ask_in : (b : Book) (e : Known) (at : Addr) (t : Expr) (x : Addr) → ask b e at t ≡ Needs x → In x (mentions at t) × Lacks b e x x
 ask_in b e at t x h =
     let p = subst (λ r. LikeAsked Lacking Equal r r) h (run_like Named Lacking Equal (look b e) (look b e) looks (plan b.texts at t) (plan b.texts at t) (plan_like Named Equal b.texts b.texts (equal_respects b.texts) at at t t (tree_self Named Equal All (λ i k. refl) at t (texts_below_all t) (λ y k. (refl, k))))) in

@@ -1,3 +1,4 @@
+//! Formulas with what they are printed as, and with the place and number of their fault.
 ghost use Rattle.std.specs.Prelude.{◌≡◌, true, IfOk, string_bytes};
 ghost use Rattle.cell_values.specs.Addresses.{IsOnSheet};
 ghost use Rattle.formula_tokens.specs.Words.{begins_with};

@@ -1,3 +1,5 @@
+//! Sheets with their cells and faults, worked out by hand from the rules of CSV.
+
 use crate::{SheetFault, read_sheet, write_row};
 use cell_values::{Addr, Raw, Texts};
 use csv::ReaderBuilder;

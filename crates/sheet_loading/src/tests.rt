@@ -1,3 +1,4 @@
+//! Sheets with what is loaded of them, and with what they are refused for.
 ghost use Rattle.std.specs.Prelude.{◌≡◌, length, IfOk};
 
 use crate::{FieldFault, Loader, SHEET_BYTES, SheetRefusal, SheetsFault, load_sheets};

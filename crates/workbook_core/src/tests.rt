@@ -1,3 +1,4 @@
+//! Cells put, copied and taken out, with what the workbook holds then.
 ghost use Rattle.std.specs.Prelude.{◌≡◌, ◌<◌, length, IfOk};
 ghost use Rattle.cell_values.specs.Addresses.{IsOnSheet};
 
