@@ -8,6 +8,7 @@ use worker_machine::{Hints, Next};
 
 /// Takes hints until one names a cell that is not known, or they have ended.
 fn take_hints<H: Hints>(demands: &DemandStack<'_>, hints: &mut H) -> Option<u32>
+    requires { H.askable hints.old }
     ensures some { IfSome result (λ i. NamesUnknown demands.now.known i × (H.last hints.new ≡ Some i) × (H.left hints.new < H.left hints.old) × (H.over hints.new ≡ H.over hints.old)) }
     ensures none { result ≡ None → (H.left hints.new ≤ H.left hints.old) × (H.over hints.new ≡ true) }
 {

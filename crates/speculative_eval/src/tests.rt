@@ -668,13 +668,15 @@ struct Numbers {
 }
 
 impl Hints for Numbers {
-    ghost use Rattle.std.specs.Prelude.{◌-◌};
+    ghost use Rattle.std.specs.Prelude.{◌≡◌, ◌-◌, false};
 
     ghost left = { λ h. 2 - h.given };
 
     ghost last = { λ h. h.last };
 
     ghost over = { λ h. h.over };
+
+    ghost askable = { λ h. h.over ≡ false };
 
     fn take(&mut self) -> Option<u32> {
         if self.given >= 2 {

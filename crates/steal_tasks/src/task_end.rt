@@ -101,13 +101,15 @@ impl TaskEnd {
 }
 
 impl Hints for TaskEnd {
-    ghost use Rattle.std.specs.Prelude.{◌-◌};
+    ghost use Rattle.std.specs.Prelude.{◌≡◌, ◌-◌, false};
 
     ghost left = { λ e. e.count - e.given };
 
     ghost last = { λ e. e.last };
 
     ghost over = { λ e. e.over };
+
+    ghost askable = { λ e. e.over ≡ false };
 
     fn take(&mut self) -> Option<u32> {
         TaskEnd::take(self)

@@ -90,6 +90,9 @@ fn bits_of<H: Hints>(mut hints: H) -> (u64, u32) {
     let mut bits = 0u64;
     let mut given = 0u32;
     for _ in 0..64 {
+        if hints.ended() {
+            break;
+        }
         if let Some(number) = hints.take() {
             bits |= 1u64.checked_shl(number).unwrap_or(0);
             given = given.saturating_add(1);
