@@ -1,5 +1,5 @@
 -- What a state that may come asks of the stack.
-use Rattle.std.proofs.Common.{◌≡◌, ℕ, ◌<◌, ◌≤◌, Bool, true, false, ◌||◌, inl, inr, List, [], ◌∷◌, ◌++◌, length, get_or, set, eqb, ltb, cond, refl, sym, ap, ◌∙◌, subst, Option, Some, None, IfSome, arith, eqb-true}
+use Rattle.std.proofs.Common.{◌≡◌, ℕ, ◌<◌, ◌≤◌, Bool, true, false, ◌||◌, inl, inr, List, [], ◌∷◌, ◌++◌, length, get_or, eqb, ltb, cond, refl, sym, ap, ◌∙◌, subst, Option, Some, None, IfSome, arith, eqb-true}
 use Rattle.std.proofs.lemmas.Bool.{ltb-true}
 use Rattle.std.proofs.lemmas.List.{get_or-set_same}
 use Rattle.cell_values.specs.declared.values.Shown.{Shown}
@@ -13,12 +13,12 @@ use Rattle.worker_machine.specs.declared.state.Doing.{Doing}
 use Rattle.worker_machine.specs.declared.state.Entry.{Entry}
 use Rattle.worker_machine.specs.Jobs.{shows}
 use Rattle.worker_machine.specs.Evaluation.{Among, IsEvaluation, cells_of, has}
-use Rattle.worker_machine.specs.States.{State, Phase, ReadingTag, ReadingValue, phase_of}
+use Rattle.worker_machine.specs.States.{ReadingTag, ReadingValue, phase_of}
 use Rattle.worker_machine.specs.Machine.{after, after_load_tag, after_load_value, after_record, after_tag, after_value, learn_cell, push_cell}
 use Rattle.worker_machine.specs.Invariant.{WordsRead, open_cells}
 use Rattle.worker_machine.proofs.Stepping.{reads_in, why_event}
 use Rattle.worker_machine.proofs.Working.{steps_keep}
-use Rattle.demand_stack.specs.StackSeen.{IsFound, IsKnownTop, pending_of}
+use Rattle.demand_stack.specs.StackSeen.{IsKnownTop, pending_of}
 use Rattle.speculative_eval.specs.declared.machine.Machine.{Machine}
 use Rattle.speculative_eval.specs.Machines.{job_of, state_of, IsWorking, CanNote, CanPush, CanLearn, CanBecome}
 

@@ -1,8 +1,7 @@
 -- What the changes that a state calls for may ask of the stack.
-use Rattle.std.proofs.Common.{◌≡◌, ℕ, ◌<◌, true, List, ◌∷◌, length, get_or, set, sym, ap, subst, Some, None, arith}
+use Rattle.std.proofs.Common.{◌≡◌, ℕ, ◌<◌, true, length, get_or, set, sym, subst, Some, None, arith}
 use Rattle.std.proofs.lemmas.List.{get_or-set_same}
 use Rattle.cell_values.specs.declared.values.Shown.{Shown}
-use Rattle.demand_spec.specs.declared.Asked.{Asked}
 use Rattle.claim_core.specs.declared.view.View.{View}
 use Rattle.worker_machine.specs.declared.action.Change.TheVariants.{Take, Learn, Close}
 use Rattle.worker_machine.specs.declared.action.Next.TheVariants.{Alter}
@@ -12,7 +11,7 @@ use Rattle.worker_machine.specs.Evaluation.{cells_of, has, learn_top}
 use Rattle.worker_machine.specs.States.{State, known_at}
 use Rattle.worker_machine.specs.Machine.{next}
 use Rattle.worker_machine.specs.Invariant.{IsWorker}
-use Rattle.worker_machine.proofs.Why.{Top, TopGives, TopNeeds, Marked, other, known, nothing, WhyLearn, why_is}
+use Rattle.worker_machine.proofs.Why.{Top, TopGives, Marked, other, known, nothing, WhyLearn, why_is}
 use Rattle.worker_machine.proofs.Changing.{top_below, top_demands}
 use Rattle.worker_machine.proofs.Working.{change_works}
 use Rattle.demand_stack.specs.StackSeen.{IsFound, IsKnownTop, IsUnknownTop, TopDemands}

@@ -10,7 +10,6 @@ use Rattle.claim_core.specs.declared.event.Claim.{Claim}
 use Rattle.claim_core.specs.declared.event.Publish.{Publish}
 use Rattle.claim_core.specs.declared.event.Event.{Event}
 use Rattle.claim_core.specs.declared.view.View.{View}
-use Rattle.claim_core.specs.Rule.{Setup}
 use Rattle.claim_core.specs.Steps.{grown, taken_after}
 use Rattle.claim_core.specs.Passes.{RoundSeen, PassSeen, IsIdle, SeesAllDone}
 use Rattle.claim_core.specs.Pending.{IsPending}
@@ -22,7 +21,7 @@ use Rattle.worker_machine.specs.declared.action.Next.TheVariants.{Alter, Do, Res
 use Rattle.worker_machine.specs.declared.state.Store.{Store}
 use Rattle.worker_machine.specs.Jobs.{Job, round_of}
 use Rattle.worker_machine.specs.States.{State, Phase, Free, Claiming, ReadingTag, ReadingValue, start, held_number, top_result}
-use Rattle.worker_machine.specs.Machine.{next, action_from, look_at_cell, begins_at, settle, changes_left, after_change, after, after_word, after_claim, after_tag, after_load_tag, after_record, after_value, after_load_value, learn_cell, push_cell, with_word, with_tag, store_after}
+use Rattle.worker_machine.specs.Machine.{next, action_from, look_at_cell, begins_at, settle, changes_left, after_change, after, after_word, after_claim, after_load_tag, after_record, after_load_value, learn_cell, push_cell, with_word, with_tag, store_after}
 use Rattle.worker_machine.specs.Evaluation.{KnowsAll, first_from}
 use Rattle.worker_machine.specs.RoundSteps.{IsAllowed, IsEvent, IsHint, IsTold, action_of, claimer_in}
 use Rattle.worker_machine.specs.Invariant.{IsWorker}

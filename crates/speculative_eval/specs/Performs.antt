@@ -1,5 +1,5 @@
 -- What a step of the round asks, and what follows for the pass.
-use Rattle.std.specs.Prelude.{◌≡◌, ℕ, ◌+◌, ◌<◌, Option, Some, None, length, IfSome, IsSome, IsNone}
+use Rattle.std.specs.Prelude.{◌≡◌, ℕ, ◌+◌, ◌<◌, Option, Some, length, IfSome, IsSome, IsNone}
 use Rattle.cell_values.specs.declared.values.Shown.{Shown}
 use Rattle.cell_words.specs.declared.TheConstants.{WORDS}
 use Rattle.cell_words.specs.declared.cell_word.CellWord.{CellWord}

@@ -1,6 +1,6 @@
 -- Workers, as clauses see them.
 use Rattle.std.specs.Prelude.{◌≡◌, Bool, Option}
-use Rattle.claim_core.specs.Passes.{RoundSeen, PassSeen, TurnSeen, Belongs, IsPassOf}
+use Rattle.claim_core.specs.Passes.{RoundSeen, PassSeen, Belongs, IsPassOf}
 use Rattle.worker_machine.specs.declared.action.Action.{Action}
 use Rattle.worker_machine.specs.Jobs.{Job, round_of}
 use Rattle.worker_machine.specs.States.{State, start}

@@ -1,4 +1,4 @@
-use Rattle.std.proofs.Common.{◌≡◌, length, sym, ◌∙◌, subst}
+use Rattle.std.proofs.Common.{length, sym, ◌∙◌, subst}
 use Rattle.claim_core.specs.Passes.{SeesAllDone}
 use Rattle.worker_machine.specs.Evaluation.{KnowsAll}
 use Rattle.speculative_eval.specs.Hinted.{hints_with}

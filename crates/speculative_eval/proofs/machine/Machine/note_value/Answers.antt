@@ -1,4 +1,4 @@
-use Rattle.std.proofs.Common.{◌≡◌, false, length, ltb, sym, ap, ◌∙◌, arith}
+use Rattle.std.proofs.Common.{◌≡◌, false, length, ltb, sym, ◌∙◌, arith}
 use Rattle.std.proofs.lemmas.Bool.{le-ltb}
 use Rattle.cell_words.specs.Records.{tag_words}
 use Rattle.speculative_eval.proofs.Becoming.{tag_known, value_learns, value_pushes, words_room}

@@ -1,5 +1,4 @@
 use Rattle.std.proofs.Common.{◌≡◌, ◌<◌, ap, sym, ◌∙◌, subst}
-use Rattle.worker_machine.specs.declared.action.Next.TheVariants.{Alter}
 use Rattle.worker_machine.specs.States.{top_result}
 use Rattle.worker_machine.specs.Machine.{changes_left, next, settle}
 use Rattle.worker_machine.specs.Runs.{IsSettled}
