@@ -1,15 +1,15 @@
 -- Where the cells of a sheet stand.
-use Rattle.std.proofs.Common.{◌≡◌, ℕ, ◌+◌, ◌<◌, ◌≤◌, Bool, true, false, cond, eqb, List, [], ◌∷◌, ◌++◌, get_or, fold, All, Option, Some, None, ◌⊎◌, inl, inr, refl, sym, subst, lit≤, arith}
-use Rattle.std.specs.Prelude.{not, AllPairs}
+use Rattle.std.proofs.Common.{◌≡◌, ℕ, ◌+◌, ◌<◌, ◌≤◌, Bool, true, false, cond, eqb, suc, List, [], ◌∷◌, ◌++◌, get_or, fold, All, Option, Some, None, ◌⊎◌, inl, inr, refl, sym, subst, lit≤, arith}
+use Rattle.std.specs.Prelude.{not}
 use Rattle.std.specs.Str.{is_utf8}
 use Rattle.std.proofs.lemmas.Bool.Decides.{nat_tests}
 use Rattle.std.proofs.lemmas.List.Elements.{All-nil, All-push, All-weaker}
-use Rattle.std.proofs.lemmas.List.Quantifiers.{all_pairs_push}
 use Rattle.std.proofs.lemmas.List.Sums.{fold-append}
 use Rattle.cell_values.specs.declared.address.Addr.{Addr}
 use Rattle.cell_values.specs.declared.fields.Raw.{Raw}
 use Rattle.cell_values.specs.Addresses.{IsBefore, IsOnSheet}
 use Rattle.cell_values.specs.Fields.{raw_of}
+use Rattle.cell_values.specs.Order.{addresses, InOrder, IsBeforeAll}
 use Rattle.cell_values.specs.Texts.{Texts}
 use Rattle.sheet_csv.specs.declared.reading.SheetFault.{SheetFault}
 use Rattle.sheet_csv.specs.Sheet.{Field, Sheet, cell_at, cells_of, fault_of, fields_from, first_fault, is_empty, is_in_sheet, or_first, room_after, row_fields, sheet_fields, with_field}
@@ -25,13 +25,10 @@ StandsBefore row col c = (c.0.row < row) ⊎ ((c.0.row ≡ row) × (c.0.col < co
 abbrev pub OnSheet : ℕ → Cell → Type 0
 OnSheet sheet c = IsOnSheet c.0 × (c.0.sheet ≡ sheet)
 
-abbrev pub InOrder : Cell → Cell → Type 0
-InOrder a b = IsBefore a.0 b.0
-
 -- cells in order that stand on the sheet, before a place
 pub record ArePlaced (sheet row col : ℕ) (cells : List Cell) : Type 0 where
   pub on_sheet : All (OnSheet sheet) cells
-  pub in_order : AllPairs InOrder cells
+  pub in_order : InOrder (addresses cells)
   pub before : All (StandsBefore row col) cells
 
 -- the first field passed, and those behind it
@@ -63,11 +60,20 @@ further row col c h = elim h [ inl above ↦ inl above | inr (same, left) ↦ in
 next_row : (row col : ℕ) (c : Cell) → StandsBefore row col c → StandsBefore (row + 1) 1 c
 next_row row col c h = elim h [ inl above ↦ inl (omega arith) | inr (same, left) ↦ inl (omega arith) ]
 
-stands_before : (sheet row col : ℕ) (f : Field) (raw : Raw) (c : Cell) → f.row ≡ row → f.col ≡ col → c.0.sheet ≡ sheet → StandsBefore row col c → InOrder c (cell_at sheet f, raw)
+stands_before : (sheet row col : ℕ) (f : Field) (raw : Raw) (c : Cell) → f.row ≡ row → f.col ≡ col → c.0.sheet ≡ sheet → StandsBefore row col c → IsBefore c.0 (cell_at sheet f)
 stands_before sheet row col f raw c r k s h = inr (s, elim h [ inl above ↦ inl (omega arith) | inr (same, left) ↦ inr (omega arith, omega arith) ])
 
 at_place : (sheet row col : ℕ) (f : Field) (raw : Raw) → f.row ≡ row → f.col ≡ col → StandsBefore row (col + 1) (cell_at sheet f, raw)
 at_place sheet row col f raw r k = inr (r, omega arith)
+
+-- one more cell behind those in order
+before_push : (a : Addr) (cells : List Cell) (c : Cell) → IsBeforeAll a (addresses cells) → IsBefore a c.0 → IsBeforeAll a (addresses (cells ++ c ∷ []))
+before_push a [] c h k = (k, tt)
+before_push a (x ∷ rest) c h k = (h.0, before_push a rest c h.1 k)
+
+order_push : (cells : List Cell) (c : Cell) → InOrder (addresses cells) → All (λ x. IsBefore x.0 c.0) cells → InOrder (addresses (cells ++ c ∷ []))
+order_push [] c h k = (tt, tt)
+order_push (x ∷ rest) c h k = (before_push x.0 rest c h.0 (k 0 x (omega arith)), order_push rest c h.1 (λ i d l. k (suc i) d (omega (arith, l))))
 
 -- one more field
 placed_field : (sheet room row col : ℕ) (s : Sheet) (f : Field) → f.row ≡ row → f.col ≡ col → 1 ≤ row → 1 ≤ col → fault_of room f ≡ None → ArePlaced sheet row col s.1 → ArePlaced sheet row (col + 1) (with_field sheet s f).1
@@ -80,7 +86,7 @@ placed_field sheet room row col (ts, cells) f r k first left e h = by_empty (is_
         let raw = (raw_of ts f.bytes).1 in
         record {
           on_sheet = All-push (OnSheet sheet) cells (cell_at sheet f, raw) h.on_sheet (on_its_sheet sheet f raw (omega arith) (omega arith) (g refl));
-          in_order = all_pairs_push InOrder cells (cell_at sheet f, raw) h.in_order (λ i d l. stands_before sheet row col f raw (get_or cells i d) r k (h.on_sheet i d l).1 (h.before i d l));
+          in_order = order_push cells (cell_at sheet f, raw) h.in_order (λ i d l. stands_before sheet row col f raw (get_or cells i d) r k (h.on_sheet i d l).1 (h.before i d l));
           before = All-push (StandsBefore row (col + 1)) cells (cell_at sheet f, raw) (All-weaker (StandsBefore row col) (StandsBefore row (col + 1)) (further row col) cells h.before) (at_place sheet row col f raw r k);
         }
 
@@ -104,7 +110,7 @@ placed_rows sheet room row s (r ∷ rest) first e h =
     (last, subst (λ (u : Sheet). ArePlaced sheet last 1 u.1) (sym (fold-append (with_field sheet) s (row_fields (row, r)) (fields_from (row + 1) rest))) all)
 
 none_placed : (sheet : ℕ) → ArePlaced sheet 1 1 []
-none_placed sheet = record { on_sheet = All-nil (OnSheet sheet); in_order = λ i j d l n. absurd (omega arith); before = All-nil (StandsBefore 1 1) }
+none_placed sheet = record { on_sheet = All-nil (OnSheet sheet); in_order = tt; before = All-nil (StandsBefore 1 1) }
 
 -- the cells of a sheet without a fault
 pub sheet_placed : (sheet room : ℕ) (ts : Texts) (bytes : List ℕ) → first_fault room (sheet_fields bytes) ≡ None → (end : ℕ) × ArePlaced sheet end 1 (cells_of sheet ts (sheet_fields bytes)).1

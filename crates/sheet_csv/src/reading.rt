@@ -1,9 +1,10 @@
 //! The cells of a sheet, from CSV.
 
-ghost use Rattle.std.specs.Prelude.{◌≡◌, ◌≤◌, ◌+◌, ◌-◌, ◌⊎◌, List, [], ◌∷◌, ◌++◌, fold, max, All, AllPairs, Some, None, IfErr, IfOk, OnOk, vec_len};
-ghost use Rattle.cell_values.specs.Addresses.{IsBefore, IsOnSheet};
+ghost use Rattle.std.specs.Prelude.{◌≡◌, ◌≤◌, ◌+◌, ◌-◌, ◌⊎◌, List, [], ◌∷◌, ◌++◌, fold, max, All, Some, None, IfErr, IfOk, OnOk, vec_len};
+ghost use Rattle.cell_values.specs.Addresses.{IsOnSheet};
 ghost use Rattle.cell_values.specs.Fields.{IsRawOf, raw_of};
 ghost use Rattle.cell_values.specs.Interned.{KeepsTexts};
+ghost use Rattle.cell_values.specs.Order.{addresses, InOrder};
 ghost use Rattle.csv.specs.Records.{fields_of};
 ghost use Rattle.sheet_csv.specs.Sheet.{Field, cells_of, fault_of, first_fault, row_fields, sheet_fields, with_field};
 
@@ -54,7 +55,7 @@ pub fn read_sheet(
     // What follows for the cells.
     ensures within { IfOk result (λ cells. vec_len cells ≤ room) }
     ensures on_sheet { IfOk result (λ cells. All (λ cell. IsOnSheet cell.0 × (cell.0.sheet ≡ sheet)) cells.items) }
-    ensures in_order { IfOk result (λ cells. AllPairs (λ a b. IsBefore a.0 b.0) cells.items) }
+    ensures in_order { IfOk result (λ cells. InOrder (addresses cells.items)) }
     ensures there { IfOk result (λ cells. All (λ cell. IsRawOf texts.new cell.1) cells.items) }
 {
     let reader = ReaderBuilder::new()

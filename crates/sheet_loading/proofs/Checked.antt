@@ -1,12 +1,13 @@
 -- The formulas of a sheet are read one after the other.
 use Rattle.std.proofs.Common.{◌≡◌, ℕ, suc, ◌+◌, ◌<◌, ◌⊎◌, inl, inr, List, [], ◌∷◌, drop, length, get_or, drop-cons, Some, None, Ok, Err, refl, sym, subst, ap, ◌∙◌, arith}
-use Rattle.std.specs.List.{All, AllPairs}
+use Rattle.std.specs.List.{All}
 use Rattle.std.specs.Result.{result_map_both}
 use Rattle.cell_values.specs.declared.address.Addr.{Addr}
 use Rattle.cell_values.specs.declared.fields.Raw.{Raw}
-use Rattle.cell_values.specs.Addresses.{IsBefore, IsOnSheet}
+use Rattle.cell_values.specs.Addresses.{IsOnSheet}
 use Rattle.cell_values.specs.Fields.{IsRawOf}
 use Rattle.cell_values.specs.Interned.{KeepsTexts}
+use Rattle.cell_values.specs.Order.{InOrder, addresses}
 use Rattle.cell_values.specs.Texts.{Texts}
 use Rattle.formula_grammar.specs.Reading.{Reading, IsReading}
 use Rattle.sheet_csv.specs.declared.reading.SheetFault.{SheetFault}
@@ -20,7 +21,7 @@ use Rattle.sheet_loading.specs.Faults.{IsLoadFault, load_fault_of}
 use Rattle.sheet_loading.specs.Loaded.{cells_in, held_by}
 use Rattle.sheet_loading.specs.Sheets.{book_of_sheet, sheet_read, unless_fault}
 use Rattle.sheet_loading.specs.Steps.{IsFieldFault, ReadsField, ReadsFields, ReadsSheet}
-use Rattle.sheet_loading.proofs.Placed.{pairs_in_order, placed_stay, sheet_placed}
+use Rattle.sheet_loading.proofs.Placed.{placed_stay, sheet_placed}
 use Rattle.sheet_loading.proofs.Trees.{held_stays, tree_stays}
 
 -- the fields in front of `rest` were read, and what is read of `rest` decides
@@ -108,12 +109,12 @@ pub formula_refused : (fault : LoadFault) (names : Names) (sheet : ℕ) (ts us :
 formula_refused fault names sheet ts us room bytes fields n e h read right = subst (IsLoadFault fault) (sym (sheet_is read names sheet ts us room bytes fields n e)) (h read right)
 
 pub sheet_reads : (names : Names) (sheet : ℕ) (ts us then : Texts) (room : ℕ) (bytes : List ℕ) (fields : List (Addr × Raw)) → first_fault room (sheet_fields bytes) ≡ None →
-    (us, fields) ≡ cells_of sheet ts (sheet_fields bytes) → All (λ c. IsOnSheet c.0 × (c.0.sheet ≡ sheet)) fields → AllPairs (λ a b. IsBefore a.0 b.0) fields → All (λ c. IsRawOf us c.1) fields →
+    (us, fields) ≡ cells_of sheet ts (sheet_fields bytes) → All (λ c. IsOnSheet c.0 × (c.0.sheet ≡ sheet)) fields → InOrder (addresses fields) → All (λ c. IsRawOf us c.1) fields →
     KeepsTexts us then → ReadsFields names us then fields → ReadsSheet names sheet ts then room bytes fields
 sheet_reads names sheet ts us then room bytes fields n e here order there k h = record {
   made = λ read right. sheet_is read names sheet ts us room bytes fields n e ∙ h.made read right;
   trees = h.trees;
   placed = placed_stay us then (sheet + 1) (sheet + 1) fields k (omega arith) (sheet_placed sheet ts us fields bytes e here there);
-  order = pairs_in_order fields order;
+  order = order;
   here = here;
 }

@@ -1,11 +1,11 @@
 -- The cells that a sheet gives are fields, none of them empty, and lie behind those of earlier sheets.
 use Rattle.std.proofs.Common.{◌≡◌, ℕ, ℤ, ◌+◌, ◌≤◌, inl, List, [], ◌∷◌, ◌++◌, length, arith, Option, Some, None, Bool, true, false, eqb, refl, sym, subst, cond, fold, codes, suc}
 use Rattle.std.proofs.lemmas.List.Elements.{All-from_recursion}
-use Rattle.std.specs.List.{AllByRecursion, All, AllPairs}
+use Rattle.std.specs.List.{AllByRecursion, All}
 use Rattle.std.specs.Str.{bytes_eq}
 use Rattle.cell_values.specs.declared.address.Addr.{Addr}
 use Rattle.cell_values.specs.declared.fields.Raw.{Raw}
-use Rattle.cell_values.specs.Addresses.{IsBefore, IsOnSheet}
+use Rattle.cell_values.specs.Addresses.{IsOnSheet}
 use Rattle.cell_values.specs.Fields.{IsRawOf, raw_of, text_raw, plain_raw, number_of_field}
 use Rattle.cell_values.specs.Interned.{KeepsTexts}
 use Rattle.cell_values.specs.Order.{addresses, InOrder, IsBeforeAll}
@@ -97,14 +97,6 @@ placed_stay ts us sheet more (c ∷ rest) k l h = (
 )
 
 -- the order
-
-pub pairs_in_order : (cells : List (Addr × Raw)) → AllPairs (λ a b. IsBefore a.0 b.0) cells → InOrder (addresses cells)
-pairs_in_order [] h = tt
-pairs_in_order (c ∷ rest) h = (first rest (λ k d l. h 0 (suc k) d (omega arith) (omega (arith, l))), pairs_in_order rest (λ i j d l m. h (suc i) (suc j) d (omega (arith, l)) (omega (arith, m))))
-  where
-    first : (cs : List (Addr × Raw)) → All (λ b. IsBefore c.0 b.0) cs → IsBeforeAll c.0 (addresses cs)
-    first [] k = tt
-    first (x ∷ xs) k = (k 0 x (omega arith), first xs (λ i d l. k (suc i) d (omega (arith, l))))
 
 before_both : (a : Addr) (xs ys : List (Addr × Raw)) → IsBeforeAll a (addresses xs) → IsBeforeAll a (addresses ys) → IsBeforeAll a (addresses (xs ++ ys))
 before_both a [] ys h k = k

@@ -1,14 +1,15 @@
 use Rattle.std.proofs.Common.{◌≡◌, ℕ, ◌+◌, ◌-◌, true, false, Bor, List, [], length, inl, inr, Some, fold, All, ap, sym, refl, ◌∙◌, subst, arith}
-use Rattle.std.specs.Prelude.{vec_len, AllPairs}
+use Rattle.std.specs.Prelude.{vec_len}
 use Rattle.std.proofs.lemmas.List.Elements.{All-nil}
 use Rattle.cell_values.specs.Fields.{IsRawOf}
+use Rattle.cell_values.specs.Order.{addresses, InOrder}
 use Rattle.std.proofs.lemmas.Result.{err_from_is_err_and}
 use Rattle.csv.specs.Reading.{default_config, records_from, strip_bom, with_flexible, with_names_headers}
 use Rattle.csv.specs.Records.{fields_of}
 use Rattle.csv.specs.declared.reader.ReaderBuilder.{ReaderBuilder}
 use Rattle.csv.proofs.ReadFacts.{rows-end}
 use Rattle.sheet_csv.specs.Sheet.{Sheet, fields_from, first_fault, sheet_fields, with_field}
-use Rattle.sheet_csv.proofs.PlacedCells.{Cell, InOrder, OnSheet, sheet_placed}
+use Rattle.sheet_csv.proofs.PlacedCells.{Cell, OnSheet, sheet_placed}
 use Rattle.sheet_csv.proofs.Records.{record_read, enough_more, next_rows, no_record}
 use Rattle.sheet_csv.proofs.SheetFacts.{fields_none, no_fields, kept_none, kept_more, sheet_cells, sheet_passed, sheet_refused}
 use Rattle.sheet_csv.proofs.reading.read_sheet.Goals as goal
@@ -112,4 +113,4 @@ returns-clause-on_sheet c =
 pub returns-clause-in_order : goal.returns-clause-in_order
 returns-clause-in_order c =
     let (end, placed) = sheet_placed c.args.sheet c.args.room c.args.texts.now c.args.bytes.now (returns-clause-no_fault c) in
-    subst (λ (s : Sheet). AllPairs InOrder s.1) (sym (returns-clause-cells c)) placed.in_order
+    subst (λ (s : Sheet). InOrder (addresses s.1)) (sym (returns-clause-cells c)) placed.in_order
