@@ -1,12 +1,14 @@
 -- How a run ends.
-use Rattle.std.specs.Prelude.{◌≡◌, ℕ, ◌⊎◌, true, List, [], ◌∷◌, Option, Some, None, IsSomeAnd, Result, Ok, Err}
+use Rattle.std.specs.Prelude.{◌≡◌, ℕ, ◌+◌, ◌⊎◌, true, List, [], ◌∷◌, Option, Some, None, IsSomeAnd, Result, Ok, Err}
 use Rattle.byte_streams.specs.Faults.{HasRisen}
 use Rattle.byte_streams.specs.Folders.{StoredFile}
-use Rattle.command_words.specs.Asking.{Request}
+use Rattle.command_words.specs.Asking.{Request, show, edit, trace, demo}
 use Rattle.claim_core.specs.Passes.{OutcomeSeen}
 use Rattle.demand_spec.specs.Book.{Book}
+use Rattle.sheet_loading.specs.declared.TheConstants.{SHEET_BYTES}
 use Rattle.sheet_loading.specs.declared.faults.SheetRefusal.{SheetRefusal}
 use Rattle.workbook_core.specs.Books.{SharedBook}
+use Rattle.puncalc_program.specs.declared.script.TheConstants.{SCRIPT_BYTES}
 use Rattle.puncalc_program.specs.declared.stop.Stop.{Stop}
 use Rattle.puncalc_program.specs.Desks.{KeptIs}
 use Rattle.puncalc_program.specs.Outputs.{Output}
@@ -66,6 +68,14 @@ Lacks request told = IsSomeAnd told (λ folder. (read : Readings) → AreReading
 abbrev pub CouldNotRead : Option Request → (ℕ × ℕ) → (ℕ × ℕ) → Option (List StoredFile) → Type 0
 CouldNotRead request input folder told =
     HasRisen input.0 input.1 ⊎ ((is_edit request ≡ true) × HasRisen folder.0 folder.1) ⊎ Lacks request told
+
+-- the most reads of the input: one more than a sheet or a script may have bytes; none where nothing is read
+abbrev pub most_reads : Option Request → ℕ
+most_reads (Some (show workers)) = SHEET_BYTES + 1
+most_reads (Some (edit workers files)) = SCRIPT_BYTES + 1
+most_reads (Some (trace workers order stopped)) = SHEET_BYTES + 1
+most_reads (Some (demo workers count)) = 0
+most_reads None = 0
 
 -- it did not stop for what it reads
 abbrev pub NeverReads : {A : Type 0} → Result A Stop → Type 0

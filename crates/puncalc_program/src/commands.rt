@@ -94,7 +94,7 @@ pub(crate) fn edit<R: Threads + Sync, D: Folder, S: Source, K: Sink, P: Pace>(
     ensures same_files { D.files folder.new ≡ D.files folder.old }
     ensures causes { StopsFor (CouldNotRead (Some (edit workers.now.count (map string_bytes files.now))) (S.faults input.old, S.faults input.new) (D.faults folder.old, D.faults folder.new) (D.files folder.old))
         (sunk K.written K.faults K.calls out.old) (sunk K.written K.faults K.calls out.new) result }
-    ensures few_reads { S.calls input.new ≤ S.calls input.old + SHEET_BYTES + 1 }
+    ensures few_reads { S.calls input.new ≤ S.calls input.old + SCRIPT_BYTES + 1 }
 {
     let names = match SheetNames::new(alloc, files) {
         Ok(names) => names,
@@ -123,7 +123,7 @@ fn run_input<R: Threads + Sync, S: Source, K: Sink, P: Pace>(
     ensures read_whole { IfOk result (λ status. status ≡ 0 → S.left input.new ≡ option_map (λ _. []) (S.left input.old)) }
     ensures ended { IfOk result (λ status. (status ≡ 0) ⊎ (status ≡ 4)) }
     ensures causes { StopsFor (HasRisen (S.faults input.old) (S.faults input.new)) (sunk K.written K.faults K.calls out.old) (sunk K.written K.faults K.calls out.new) result }
-    ensures few_reads { S.calls input.new ≤ S.calls input.old + SHEET_BYTES + 1 }
+    ensures few_reads { S.calls input.new ≤ S.calls input.old + SCRIPT_BYTES + 1 }
 {
     match read_all(alloc, input, SCRIPT_BYTES) {
         Ok(script) => run_script(alloc, workers, book, &script, out, kept),

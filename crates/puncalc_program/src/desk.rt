@@ -135,15 +135,11 @@ fn keep(kept: &mut Option<Outcome>, outcome: Option<Outcome>)
     }
 }
 
-/// What all workbooks keep: a look at a cell tells it.
+/// What all workbooks keep: the count of their cells tells it.
 pub(crate) fn tell_cells(book: &Workbook)
     ensures { IsWorkbook book.now }
 {
-    let _content = book.content(Addr {
-        sheet: 0,
-        row: 1,
-        col: 1,
-    });
+    let _count = book.count();
 }
 
 impl Desk {

@@ -6,9 +6,8 @@ ghost use Rattle.byte_streams.specs.Faults.{HasRisen};
 ghost use Rattle.byte_streams.specs.Folders.{StoredFile};
 ghost use Rattle.command_words.specs.Asking.{asked, request_of};
 ghost use Rattle.command_words.specs.Sound.{IsSound};
-ghost use Rattle.sheet_loading.specs.declared.TheConstants.{SHEET_BYTES};
 ghost use Rattle.puncalc_program.specs.Output.{are_accepted, ask_for_input, asks_for_files, is_edit, is_reading, is_request, output, request_output, words_refused, AreReadings, Readings};
-ghost use Rattle.puncalc_program.specs.Run.{Answers, AnswersAll, CouldNotRead, Ends, IsFinal, IsStatus, NeverReads, RunEnds, StopsFor};
+ghost use Rattle.puncalc_program.specs.Run.{Answers, AnswersAll, CouldNotRead, Ends, IsFinal, IsStatus, NeverReads, RunEnds, StopsFor, most_reads};
 ghost use Rattle.puncalc_program.specs.Writing.{sunk};
 
 use crate::commands::{edit, show};
@@ -64,7 +63,7 @@ pub fn run<R: Threads + Sync, D: Folder, S: Source, K: Sink, P: Pace>(
 
     ensures read_failed { result ≡ 5 → CouldNotRead (asked (map string_bytes words.now.items)) (S.faults input.old, S.faults input.new) (D.faults folder.old, D.faults folder.new) (D.files folder.old) }
     ensures write_failed { result ≡ 6 → HasRisen (K.faults out.old) (K.faults out.new) }
-    ensures few_reads { S.calls input.new ≤ S.calls input.old + SHEET_BYTES + 1 }
+    ensures few_reads { S.calls input.new ≤ S.calls input.old + most_reads (asked (map string_bytes words.now.items)) }
 {
     law_one_reading();
     *kept = None;
@@ -103,7 +102,7 @@ fn answer<R: Threads + Sync, D: Folder, S: Source, K: Sink, P: Pace>(
     ensures ended { IfOk result IsFinal }
     ensures causes { StopsFor (CouldNotRead (asked (map string_bytes words.now.items)) (S.faults input.old, S.faults input.new) (D.faults folder.old, D.faults folder.new) (D.files folder.old))
         (sunk K.written K.faults K.calls out.old) (sunk K.written K.faults K.calls out.new) result }
-    ensures few_reads { S.calls input.new ≤ S.calls input.old + SHEET_BYTES + 1 }
+    ensures few_reads { S.calls input.new ≤ S.calls input.old + most_reads (asked (map string_bytes words.now.items)) }
 {
     let asked = read_words(alloc, words)?;
     act(rt, alloc, asked, folder, input, out, pace, kept)
@@ -136,7 +135,7 @@ fn act<R: Threads + Sync, D: Folder, S: Source, K: Sink, P: Pace>(
     ensures ended { IfOk result IsFinal }
     ensures causes { StopsFor (CouldNotRead (option_map request_of asked) (S.faults input.old, S.faults input.new) (D.faults folder.old, D.faults folder.new) (D.files folder.old))
         (sunk K.written K.faults K.calls out.old) (sunk K.written K.faults K.calls out.new) result }
-    ensures few_reads { S.calls input.new ≤ S.calls input.old + SHEET_BYTES + 1 }
+    ensures few_reads { S.calls input.new ≤ S.calls input.old + most_reads (option_map request_of asked) }
 {
     match asked {
         Some(Asked::Show { workers }) => {

@@ -592,10 +592,22 @@ fn expect_widest<R: Abort + Threads + Sync>(rt: &R, alloc: Global) -> Result<(),
     Ok(())
 }
 
+/// A sheet with as many cells as a book may have is refused at one more.
+fn expect_too_many<R: Abort + Threads + Sync>(rt: &R, alloc: Global) -> Result<(), AllocError> {
+    let mut sheet = Vec::new(alloc);
+    for _ in 0..50_000 {
+        sheet.extend_from_slice(b"1,1,1,1\n")?;
+    }
+    sheet.push(b'1')?;
+    let want = "3 refused Sheet1 row 50001 column 1: S3|";
+    expect_bytes(rt, alloc, "show", b"", sheet, want)
+}
+
 #[test]
 fn meets_the_limits(rt: HostRuntime) -> Result<(), Fail> {
     let alloc = rt.alloc();
     expect_widest(&rt, alloc)?;
+    expect_too_many(&rt, alloc)?;
     let wide = wide_row(alloc, 256)?;
     expect_bytes(
         &rt,

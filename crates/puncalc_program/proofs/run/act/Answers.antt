@@ -1,10 +1,10 @@
-use Rattle.std.proofs.Common.{◌≡◌, Some, map, string_bytes, refl, ap, sym, subst, ◌∙◌}
+use Rattle.std.proofs.Common.{◌≡◌, ◌≤◌, ◌+◌, Some, map, string_bytes, refl, ap, sym, subst, ◌∙◌, arith}
 use Rattle.std.specs.Prelude.{IfSome}
 use Rattle.std.specs.Option.{option_map}
 use Rattle.command_words.specs.declared.Asked.{Asked}
 use Rattle.command_words.specs.Asking.{request_of}
 use Rattle.puncalc_program.specs.Output.{AreReadings, Readings, is_edit, request_output, traced_output}
-use Rattle.puncalc_program.specs.Run.{AnswersAll}
+use Rattle.puncalc_program.specs.Run.{AnswersAll, most_reads}
 use Rattle.puncalc_program.specs.Writing.{sunk}
 use Rattle.puncalc_program.proofs.Ends.{Edits, SheetAnswers, demo_answers, never_reads}
 use Rattle.puncalc_program.proofs.run.act.Goals as goal
@@ -46,3 +46,27 @@ returns-in-Some-Demo-clause-unread g c = λ off. (
   refl,
   never_reads (sunk g.K.Sink.written g.K.Sink.faults g.K.Sink.calls c.args.out.now) (sunk g.K.Sink.written g.K.Sink.faults g.K.Sink.calls c.demo.new.out) c.demo.result c.demo.ensures.causes,
 )
+
+pub returns-in-Some-Show-clause-few_reads : goal.returns-in-Some-Show-clause-few_reads
+returns-in-Some-Show-clause-few_reads g c =
+    let whole : c.args.asked ≡ Some (Asked.Show c.in-Some-Show.workers) = c.in-Some-Show.is ∙ ap Some c.in-Some-Show.field-0-is in
+    subst (λ asked. g.S.Source.calls c.show.new.input ≤ g.S.Source.calls c.args.input.now + most_reads (option_map request_of asked)) (sym whole)
+    (let few = c.show.ensures.few_reads in omega (arith, few))
+
+pub returns-in-Some-Edit-clause-few_reads : goal.returns-in-Some-Edit-clause-few_reads
+returns-in-Some-Edit-clause-few_reads g c =
+    let whole : c.args.asked ≡ Some (Asked.Edit c.in-Some-Edit.workers c.in-Some-Edit.files) = c.in-Some-Edit.is ∙ ap Some c.in-Some-Edit.field-0-is in
+    subst (λ asked. g.S.Source.calls c.edit.new.input ≤ g.S.Source.calls c.args.input.now + most_reads (option_map request_of asked)) (sym whole)
+    (let few = c.edit.ensures.few_reads in omega (arith, few))
+
+pub returns-in-Some-Trace-clause-few_reads : goal.returns-in-Some-Trace-clause-few_reads
+returns-in-Some-Trace-clause-few_reads g c =
+    let whole : c.args.asked ≡ Some (Asked.Trace c.in-Some-Trace.workers c.in-Some-Trace.order c.in-Some-Trace.stopped) = c.in-Some-Trace.is ∙ ap Some c.in-Some-Trace.field-0-is in
+    subst (λ asked. g.S.Source.calls c.trace.new.input ≤ g.S.Source.calls c.args.input.now + most_reads (option_map request_of asked)) (sym whole)
+    (let few = c.trace.ensures.few_reads in omega (arith, few))
+
+pub returns-in-Some-Demo-clause-few_reads : goal.returns-in-Some-Demo-clause-few_reads
+returns-in-Some-Demo-clause-few_reads g c = omega arith
+
+pub returns-in-None-clause-few_reads : goal.returns-in-None-clause-few_reads
+returns-in-None-clause-few_reads g c = omega arith
