@@ -6,6 +6,7 @@ use Rattle.cell_values.specs.declared.address.Addr.{Addr}
 use Rattle.cell_values.specs.Areas.{numbers_from}
 use Rattle.cell_values.specs.Order.{InOrder, IsBeforeAll}
 use Rattle.demand_spec.specs.Laws.{In}
+use Rattle.demand_spec.proofs.Walks.{in_either, in_left, in_right}
 use Rattle.book_save.specs.Rows.{place, places, row_places}
 
 -- the places of a row from a column on, and of rows from one on
@@ -47,24 +48,6 @@ pub places_order : (sheet columns rows : ℕ) → InOrder (places sheet columns 
 places_order sheet columns rows = rows_order sheet columns 1 rows
 
 -- ---- members
-
-pub in_left : (a : Addr) (xs ys : List Addr) → In a xs → In a (xs ++ ys)
-in_left a [] ys h = absurd h
-in_left a (x ∷ xs) ys (inl e) = inl e
-in_left a (x ∷ xs) ys (inr h) = inr (in_left a xs ys h)
-
-pub in_right : (a : Addr) (xs ys : List Addr) → In a ys → In a (xs ++ ys)
-in_right a [] ys h = h
-in_right a (x ∷ xs) ys h = inr (in_right a xs ys h)
-
-pub in_either : (a : Addr) (xs ys : List Addr) → In a (xs ++ ys) → In a xs ⊎ In a ys
-in_either a [] ys h = inr h
-in_either a (x ∷ xs) ys (inl e) = inl (inl e)
-in_either a (x ∷ xs) ys (inr h) = go (in_either a xs ys h)
-  where
-    go : In a xs ⊎ In a ys → In a (x ∷ xs) ⊎ In a ys
-    go (inl k) = inl (inr k)
-    go (inr k) = inr k
 
 in_row : (sheet row j col n : ℕ) → col ≤ j → j < col + n → In (place sheet row j) (row_from sheet row col n)
 in_row sheet row j col zero h l = absurd (omega (arith, h, l))

@@ -28,7 +28,7 @@ use Rattle.puncalc_program.specs.Refusals.{name_refused, refusal_line}
 use Rattle.puncalc_program.specs.Run.{Answers, AnswersAll, CouldNotRead, Ends, IsFinal, Lacks, NeverReads, ReadsSheet, RunEnds, StopsFor, sheet_refusal}
 use Rattle.puncalc_program.specs.Script.{Standing, lines_of, opened, script_from}
 use Rattle.puncalc_program.specs.Writing.{Sunk, WritesAll, WritesPart, StopsWriting, Writes, Unread}
-use Rattle.puncalc_program.proofs.Loading.{too_long}
+use Rattle.sheet_loading.proofs.Adding.{too_long}
 use Rattle.puncalc_program.proofs.Written.{no_part, part_more, whole_part}
 
 -- a part that only writes stopped

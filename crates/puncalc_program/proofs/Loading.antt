@@ -1,12 +1,9 @@
 -- Sheets that are added one after the other.
-use Rattle.std.proofs.Common.{◌≡◌, ◌⊎◌, inl, inr, ℕ, zero, suc, ◌+◌, ◌-◌, ◌<◌, ◌≤◌, List, [], ◌∷◌, map, length, drop, drop-cons, get_or, cond, Option, Some, None, Ok, codes, string_bytes, refl, sym, subst, ap, ◌∙◌, arith}
+use Rattle.std.proofs.Common.{◌≡◌, ◌⊎◌, inl, inr, ℕ, zero, suc, ◌+◌, ◌-◌, ◌<◌, ◌≤◌, List, [], ◌∷◌, map, length, drop, drop-cons, get_or, Option, Some, None, Ok, codes, string_bytes, refl, sym, subst, ap, ◌∙◌, arith}
 use Rattle.std.specs.Prelude.{Result, Err, IfSome, IsSomeAnd, String}
 use Rattle.std.specs.Global.{Global}
-use Rattle.std.proofs.lemmas.Bool.{lt-ltb}
-use Rattle.std.specs.Result.{result_map_both}
 use Rattle.byte_streams.specs.Folders.{StoredFile, file_named, ExplainsFetch}
 use Rattle.byte_streams.specs.declared.faults.FetchFault.{FetchFault}
-use Rattle.cell_values.specs.declared.TheConstants.{MAX_BOOK_CELLS}
 use Rattle.cell_values.specs.Names.{sheet_name}
 use Rattle.demand_spec.specs.Book.{Book}
 use Rattle.formula_grammar.specs.Reading.{Reading, IsReading}
@@ -16,7 +13,8 @@ use Rattle.sheet_loading.specs.declared.faults.SheetRefusal.{SheetRefusal}
 use Rattle.sheet_loading.specs.Faults.{IsLoadFault}
 use Rattle.sheet_loading.specs.Contents.{Names}
 use Rattle.sheet_loading.specs.Loaded.{LoadedSheets, book_of, cells_in}
-use Rattle.sheet_loading.specs.Sheets.{no_cells, sheet_added, sheet_read, with_sheet}
+use Rattle.sheet_loading.specs.Sheets.{no_cells, sheet_added}
+use Rattle.sheet_loading.proofs.Adding.{too_long}
 use Rattle.workbook_core.specs.Books.{SharedBook}
 use Rattle.byte_streams.specs.Faults.{HasRisen}
 use Rattle.puncalc_program.specs.declared.files.Loaded.{Loaded}
@@ -33,12 +31,6 @@ only_name = refl
 pub fresh_book : (read : Reading) (names : Names) (left sheet : ℕ) → book_of read (record { names = names; texts = []; fields = []; left = left; sheet = sheet }) ≡ no_cells
 unfolding book_of cells_in
 fresh_book read names left sheet = refl
-
--- a sheet with more bytes than may come
-pub too_long : (read : Reading) (names : Names) (sheet left : ℕ) (b : Book) (bytes : List ℕ) → left < length bytes → sheet_added read names sheet left b bytes ≡ Err SheetRefusal.TooLong
-unfolding sheet_added
-too_long read names sheet left b bytes many =
-    ap (λ t. cond t (Err SheetRefusal.TooLong) (result_map_both (with_sheet b) (λ why. why) (sheet_read read names sheet b.texts (MAX_BOOK_CELLS - length b.cells) bytes))) (lt-ltb left (length bytes) many)
 
 -- what is left to add gives the whole
 abbrev pub Adds : Reading → List StoredFile → Load → LoadedSheets → List (List ℕ) → Type 0
