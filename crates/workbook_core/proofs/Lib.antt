@@ -5,6 +5,7 @@ pub mod Growth
 pub mod Told
 pub mod Counting
 pub mod Puts
+pub mod SamePool
 pub mod Copied
 pub mod Walked
 pub mod Books

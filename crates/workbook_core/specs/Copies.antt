@@ -7,7 +7,7 @@ use Rattle.cell_values.specs.Addresses.{same_addr}
 use Rattle.cell_values.specs.Order.{InOrder, addresses, entry_at}
 use Rattle.demand_spec.specs.Book.{Content}
 use Rattle.demand_spec.specs.Listed.{IsSoundAt}
-use Rattle.shared_expressions.specs.Trees.{Trees}
+use Rattle.shared_expressions.specs.Trees.{Trees, IsThere}
 use Rattle.workbook_core.specs.declared.Content.{Content as Held}
 use Rattle.workbook_core.specs.declared.edits.EditFault.{EditFault}
 use Rattle.demand_spec.specs.Edits.{copied}
@@ -49,6 +49,19 @@ pub record CopiesTo (p : Trees) (c : Content) (xs : List Addr) (old new : List (
   pub order : InOrder (addresses new)
   pub copies : (a : Addr) → among xs a ≡ true → (h : Held) × (entry_at new a ≡ Some h) × IsCopy p c a h
   pub others : (a : Addr) → among xs a ≡ false → entry_at new a ≡ entry_at old a
+
+-- copied to these cells, a content is what it was: no reference and no range is lost there
+abbrev pub StaysOn : (Addr → Bool) → Option Content → Type 0
+StaysOn cells held = (a : Addr) → cells a ≡ true → copied a held ≡ held
+
+-- the pool has the tree of a content, if it is a formula
+abbrev pub HasTree : Trees → Option Content → Type 0
+HasTree p (Some (Content.Formula t)) = IsThere p t
+HasTree p held = Unit {0}
+
+-- the pool has the trees of a content's copies in these cells
+abbrev pub CopiesAreThere : Trees → (Addr → Bool) → Option Content → Type 0
+CopiesAreThere p cells held = (a : Addr) → cells a ≡ true → HasTree p (copied a held)
 
 -- there is no room for copies at all of these, unless memory ran out
 abbrev pub HasNoRoom : List (Addr × Held) → List Addr → EditFault → Type 0

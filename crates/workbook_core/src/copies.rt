@@ -1,6 +1,6 @@
 //! Copies of a cell.
 ghost use Rattle.std.specs.Map.{keys_of};
-ghost use Rattle.std.specs.Prelude.{◌≡◌, ◌<◌, ◌≤◌, true, [], length, IfOk, OnOk, IfErr, IfSome, OnErr};
+ghost use Rattle.std.specs.Prelude.{◌≡◌, ◌<◌, ◌≤◌, true, [], length, Some, IfOk, OnOk, IfErr, IfSome, OnErr};
 ghost use Rattle.cell_values.specs.Areas.{walk, IsArea};
 ghost use Rattle.cell_values.specs.Order.{InOrder, addresses as cell_addresses};
 ghost use Rattle.formula_trees.specs.Expr.{Expr, expr_of, exprs_of};
@@ -9,8 +9,8 @@ ghost use Rattle.formula_trees.specs.Shifted.{shifted, copied_cell, copied_range
 ghost use Rattle.formula_trees.specs.Sound.{IsSound};
 ghost use Rattle.demand_spec.specs.Book.{Content as BookContent};
 ghost use Rattle.demand_spec.specs.Listed.{IsSoundAt};
-ghost use Rattle.shared_expressions.specs.Trees.{tree_at, KeepsTrees};
-ghost use Rattle.workbook_core.specs.Copies.{IsCopy, AreCopies, CopiesTo, HasNoRoom, IsPlain};
+ghost use Rattle.shared_expressions.specs.Trees.{tree_at, KeepsTrees, IsThere};
+ghost use Rattle.workbook_core.specs.Copies.{among, IsCopy, AreCopies, CopiesAreThere, CopiesTo, HasNoRoom, IsPlain};
 ghost use Rattle.workbook_core.specs.Held.{content_in, cells_in, IsHeldOf};
 
 use crate::cells::CellMap;
@@ -51,6 +51,7 @@ pub(crate) fn copy_cells(
     ensures fault { IfErr result (HasNoRoom cells.old addresses.now) }
     ensures err { OnErr result (cells.new ≡ cells.old) }
     ensures kept_trees { KeepsTrees pool.old pool.new }
+    ensures there { CopiesAreThere pool.old (among addresses.now) (Some (content_in pool.old content)) → pool.new ≡ pool.old }
 {
     let empty = cells.empty_among(alloc, addresses)?;
     if cells.len() + empty.len() > MAX_BOOK_CELLS as usize {
@@ -75,6 +76,7 @@ fn copies_of(
     ensures keys { IfOk result (λ copies. keys_of copies.items ≡ addresses.now) }
     ensures copies { IfOk result (λ copies. AreCopies pool.new (content_in pool.old content) copies.items) }
     ensures kept_trees { KeepsTrees pool.old pool.new }
+    ensures there { CopiesAreThere pool.old (among addresses.now) (Some (content_in pool.old content)) → pool.new ≡ pool.old }
 {
     match content {
         Content::Formula(id) => {
@@ -100,6 +102,7 @@ fn formula_copies(
     ensures keys { IfOk result (λ copies. keys_of copies.items ≡ addresses.now) }
     ensures copies { IfOk result (λ copies. AreCopies pool.new (BookContent.Formula (expr_of tree.now)) copies.items) }
     ensures kept_trees { KeepsTrees pool.old pool.new }
+    ensures there { CopiesAreThere pool.old (among addresses.now) (Some (BookContent.Formula (expr_of tree.now))) → pool.new ≡ pool.old }
 {
     let mut copies = Vec::new(alloc);
     for at in addresses {
@@ -123,6 +126,7 @@ fn copy_of(
     requires sound { IsSound from (expr_of tree.now) }
     ensures copy { IfOk result (λ copy. IsCopy pool.new (BookContent.Formula (expr_of tree.now)) at (Content.Formula copy)) }
     ensures kept_trees { KeepsTrees pool.old pool.new }
+    ensures there { IsThere pool.old (shifted at (expr_of tree.now)) → pool.new ≡ pool.old }
 {
     if stays(tree, at) {
         return Ok(id);

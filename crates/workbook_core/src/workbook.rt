@@ -2,7 +2,7 @@
 ghost use Rattle.std.specs.Prelude.{◌≡◌, ℕ, ℤ, ◌<◌, ◌≤◌, ◌*◌, ◌&&◌, nat_le, nat_lt, [], Some, None, true, is_some, is_none, length, option_map, IfOk, IfErr, IfSome, OnOk, OnErr, MatchResult};
 ghost use Rattle.cell_values.specs.declared.TheConstants.{MAX_BOOK_CELLS};
 ghost use Rattle.cell_values.specs.Addresses.{IsOnSheet};
-ghost use Rattle.cell_values.specs.Areas.{height, width, IsArea};
+ghost use Rattle.cell_values.specs.Areas.{height, width, is_inside, IsArea};
 ghost use Rattle.cell_values.specs.Fields.{raw_of, IsRawOf};
 ghost use Rattle.cell_values.specs.Interned.{KeepsTexts};
 ghost use Rattle.cell_values.specs.Names.{AreSheetNames};
@@ -13,6 +13,7 @@ ghost use Rattle.formula_grammar.specs.declared.faults.FaultKind.{FaultKind};
 ghost use Rattle.demand_spec.specs.Book.{Content};
 ghost use Rattle.shared_expressions.specs.Trees.{KeepsTrees};
 ghost use Rattle.workbook_core.specs.Apart.{cells_of, with_cells};
+ghost use Rattle.workbook_core.specs.Copies.{CopiesAreThere, StaysOn};
 ghost use Rattle.workbook_core.specs.Books.{next_in, extent_in, IsWorkbook};
 ghost use Rattle.demand_spec.specs.Edits.{Put, Copy, IsApplied, IsTooLarge};
 ghost use Rattle.workbook_core.specs.Edits.{Puts, with_field, FieldHasFault, IsField, IsPutFault, IsCopyFault, IsThisFault, IsTooMany};
@@ -210,6 +211,11 @@ impl Workbook {
         ensures texts { self.new.book.texts ≡ self.old.book.texts }
         ensures names { self.new.names ≡ self.old.names }
         ensures kept_trees { KeepsTrees self.old.pool self.new.pool }
+
+        // A formula that loses no reference in the area stands there as the same tree. So this copy, as any whose trees the
+        // pool has, adds none.
+        ensures same_pool { StaysOn (is_inside to) (entry_at self.old.book.cells from) → self.new.pool ≡ self.old.pool }
+        ensures there { CopiesAreThere self.old.pool (is_inside to) (entry_at self.old.book.cells from) → self.new.pool ≡ self.old.pool }
     {
         let addresses = addresses_of(alloc, to)?;
         match self.cells.get(from) {

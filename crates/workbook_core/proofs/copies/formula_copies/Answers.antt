@@ -6,6 +6,7 @@ use Rattle.formula_trees.specs.Expr.{expr_of}
 use Rattle.workbook_core.specs.declared.Content.{Content as Held}
 use Rattle.workbook_core.specs.Copies.{AreCopies}
 use Rattle.workbook_core.proofs.Copied.{keys_more, formulas_more, kept_twice}
+use Rattle.workbook_core.proofs.SamePool.{no_more_trees}
 use Rattle.workbook_core.proofs.copies.formula_copies.Goals as goal
 
 abbrev no_address : Addr
@@ -25,4 +26,5 @@ loop-at-preserved c =
       copies = subst (AreCopies c.copy_of.new.pool (Content.Formula (expr_of c.args.tree.now))) (sym c.in_ok-push.ensures.items)
           (formulas_more c.loop-at.pool c.copy_of.new.pool (expr_of c.args.tree.now) c.loop-at.copies.items at c.in_ok-copy.copy c.copy_of.ensures.kept_trees c.loop-at.invariant.copies c.in_ok-copy.ensures.copy);
       kept = kept_twice c.args.pool.now c.loop-at.pool c.copy_of.new.pool c.loop-at.invariant.kept c.copy_of.ensures.kept_trees;
+      there = no_more_trees c.args.pool.now c.loop-at.pool c.copy_of.new.pool (expr_of c.args.tree.now) c.args.addresses.now c.loop-at.at-index no_address at c.loop-at-test.true refl c.loop-at.invariant.there c.copy_of.ensures.there;
     }

@@ -1,13 +1,15 @@
-use Rattle.std.proofs.Common.{◌≡◌, ◌<◌, None, IfErr, OnOk, length, subst, sym, ap, ◌∙◌, arith}
+use Rattle.std.proofs.Common.{◌≡◌, ◌<◌, Some, None, IfErr, OnOk, length, subst, sym, ap, ◌∙◌, arith}
 use Rattle.std.proofs.lemmas.Result.{on_ok_weaker, on_err_weaker, IfErr-weaker, MatchResult-from_both}
-use Rattle.cell_values.specs.Areas.{walk}
-use Rattle.workbook_core.specs.Copies.{SetsAll, CopiesTo, HasNoRoom}
+use Rattle.cell_values.specs.Areas.{walk, is_inside}
+use Rattle.cell_values.specs.Order.{entry_at}
+use Rattle.workbook_core.specs.Copies.{among, CopiesAreThere, SetsAll, StaysOn, CopiesTo, HasNoRoom}
 use Rattle.demand_spec.specs.Edits.{Copy, IsApplied, IsTooLarge}
 use Rattle.workbook_core.specs.Edits.{IsCopyFault, IsTooMany}
 use Rattle.workbook_core.specs.Held.{content_in, cells_in}
 use Rattle.workbook_core.proofs.Books.{copies_kept_on, copies_applied, copies_fault, copies_large, cleared_applied, cleared_kept, too_many_from_copies}
 use Rattle.workbook_core.proofs.Growth.{held_cell, kept_cells}
 use Rattle.workbook_core.proofs.Lookups.{length-cells_in, from_book}
+use Rattle.workbook_core.proofs.SamePool.{there_walked, there_staying}
 use Rattle.workbook_core.proofs.workbook.Workbook.copy.Goals as goal
 
 pub copy_cells-requires-clause-order : goal.copy_cells-requires-clause-order
@@ -57,6 +59,20 @@ returns-in-Some-clause-large c = λ large.
     (copies_applied c.self.inside.sheets c.self.inside.texts c.self.inside.pool c.copy_cells.new.pool c.self.inside.cells c.args.from c.args.to c.copy_cells.new.cells c.in-Some.content c.self.invariant c.copy_cells.ensures.kept_trees c.requires.area (sym c.get.ensures ∙ c.in-Some.is) d)
     c.copy_cells.ensures.few) copied)
     (IfErr-weaker c.copy_cells.result (HasNoRoom c.self.inside.cells c.deref.result.now) IsTooMany (too_many_from_copies c.self.inside.cells c.deref.result.now) c.copy_cells.ensures.fault)
+
+pub returns-in-Some-clause-there : goal.returns-in-Some-clause-there
+returns-in-Some-clause-there c =
+    let walked = c.deref.ensures.value ∙ c.in_ok-addresses.ensures in
+    let p = c.self.inside.pool in
+    subst (λ w. CopiesAreThere w.pool (is_inside c.args.to) (entry_at w.book.cells c.args.from) → c.copy_cells.new.pool ≡ w.pool) c.self.view_is (λ k.
+    c.copy_cells.ensures.there (subst (λ xs. CopiesAreThere p (among xs) (Some (content_in p c.in-Some.content))) (sym walked)
+    (there_walked p c.self.inside.cells c.args.from c.args.to c.in-Some.content (sym c.get.ensures ∙ c.in-Some.is) k)))
+
+pub returns-in-Some-clause-same_pool : goal.returns-in-Some-clause-same_pool
+returns-in-Some-clause-same_pool c = λ stays. (returns-in-Some-clause-there c) (subst (λ w. CopiesAreThere w.pool (is_inside c.args.to) (entry_at w.book.cells c.args.from)) c.self.view_is
+    (there_staying c.self.inside.pool c.self.inside.cells c.args.from c.args.to c.in-Some.content (sym c.get.ensures ∙ c.in-Some.is)
+    (held_cell c.self.inside.cells c.self.inside.texts c.self.inside.sheets c.self.inside.pool c.self.invariant c.args.from c.in-Some.content (sym c.get.ensures ∙ c.in-Some.is)).0
+    (subst (λ w. StaysOn (is_inside c.args.to) (entry_at w.book.cells c.args.from)) (sym c.self.view_is) stays)))
 
 pub remove_all-requires : goal.remove_all-requires
 remove_all-requires c = from_book c.self.inside.pool c.self.inside.cells c.self.invariant.workbook.order
