@@ -1,6 +1,8 @@
 //! A workbook as it is, or with a number in one cell.
 
-ghost use Rattle.std.specs.Prelude.{◌≡◌, option_map, IfSome};
+ghost use Rattle.std.specs.Prelude.{◌≡◌, option_map, IfSome, All};
+ghost use Rattle.std.specs.Str.{IsUtf8};
+ghost use Rattle.cell_values.specs.Interned.{AreDistinct};
 ghost use Rattle.cell_values.specs.Order.{entry_at};
 ghost use Rattle.workbook_core.specs.Held.{content_in, IsHeldOf};
 ghost use Rattle.workbook_core.specs.WithNumber.{held_with, shared_with_number, AreAskable};
@@ -64,6 +66,8 @@ impl<'a> BookWith<'a> {
     /// The texts of the cells and formulas.
     pub fn texts(&self) -> &Texts
         ensures texts { result.now ≡ self.now.book.texts }
+        ensures distinct { AreDistinct self.now.book.texts }
+        ensures utf8 { All IsUtf8 self.now.book.texts }
         ensures askable { AreAskable self.now }
     {
         // `count` tells what all workbooks keep.

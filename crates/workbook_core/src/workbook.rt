@@ -1,10 +1,11 @@
 //! Workbooks.
-ghost use Rattle.std.specs.Prelude.{◌≡◌, ℕ, ℤ, ◌<◌, ◌≤◌, ◌*◌, ◌&&◌, nat_le, nat_lt, [], Some, None, true, is_some, is_none, length, option_map, IfOk, IfErr, IfSome, OnOk, OnErr, MatchResult};
+ghost use Rattle.std.specs.Prelude.{◌≡◌, ℕ, ℤ, ◌<◌, ◌≤◌, ◌*◌, ◌&&◌, nat_le, nat_lt, [], Some, None, true, is_some, is_none, length, option_map, IfOk, IfErr, IfSome, OnOk, OnErr, MatchResult, All};
 ghost use Rattle.cell_values.specs.declared.TheConstants.{MAX_BOOK_CELLS};
 ghost use Rattle.cell_values.specs.Addresses.{IsOnSheet};
 ghost use Rattle.cell_values.specs.Areas.{height, width, is_inside, IsArea};
 ghost use Rattle.cell_values.specs.Fields.{raw_of, IsRawOf};
-ghost use Rattle.cell_values.specs.Interned.{KeepsTexts};
+ghost use Rattle.std.specs.Str.{IsUtf8};
+ghost use Rattle.cell_values.specs.Interned.{AreDistinct, KeepsTexts};
 ghost use Rattle.cell_values.specs.Names.{AreSheetNames};
 ghost use Rattle.cell_values.specs.declared.fields.Raw.{Raw};
 ghost use Rattle.cell_values.specs.Order.{addresses, entry_at};
@@ -123,8 +124,12 @@ impl Workbook {
 
     /// The texts of the cells and formulas.
     pub fn texts(&self) -> &Texts
-        ensures { result.now ≡ self.now.book.texts }
+        ensures texts { result.now ≡ self.now.book.texts }
+        ensures distinct { AreDistinct self.now.book.texts }
+        ensures utf8 { All IsUtf8 self.now.book.texts }
     {
+        // `count` tells what all interned texts keep.
+        let _count = self.texts.count();
         &self.texts
     }
 

@@ -25,7 +25,7 @@ pub ask-requires-clause-meant : goal.ask-requires-clause-meant
 ask-requires-clause-meant c =
     let w = c.args.book.now in
     let f = formula_found w.book c.args.cell _ _ c.content.ensures.content (ap (option_map (tree_at w.pool)) (sym c.in-Some.is) ∙ c.expression.ensures w.pool) in
-    rw (c.texts.ensures, c.pool.ensures) (formula_fits w c.args.cell _ c.content.ensures.workbook f).meant
+    rw (c.texts.ensures.texts, c.pool.ensures) (formula_fits w c.args.cell _ c.content.ensures.workbook f).meant
 
 pub returns-in-Some-clause-asked : goal.returns-in-Some-clause-asked
 returns-in-Some-clause-asked c =
