@@ -13,3 +13,4 @@ pub mod Fields
 pub mod Firsts
 pub mod WithNumber
 pub mod Parted
+pub mod Packed

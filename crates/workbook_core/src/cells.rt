@@ -1,9 +1,11 @@
 //! The cells of a book by address, and their addresses by column.
-ghost use Rattle.std.specs.Prelude.{◌≡◌, ◌+◌, ◌<◌, ◌≤◌, [], Some, None, is_some, cond, if◌then◌else◌, length, OnOk, OnErr, IfSome, IfNone, MatchOption};
+ghost use Rattle.std.specs.Prelude.{◌≡◌, ◌+◌, ◌<◌, ◌≤◌, [], Some, None, is_some, cond, if◌then◌else◌, length, IfOk, OnOk, OnErr, IfSome, IfNone, MatchOption};
+ghost use Rattle.std.specs.List.{list_any};
 ghost use Rattle.cell_values.specs.Addresses.{same_addr};
 ghost use Rattle.cell_values.specs.Order.{addresses, entry_at};
 ghost use Rattle.workbook_core.specs.Books.{IsNextCell, IsLastCell, IsExtent, IsLastRow, IsLastColumn, IsEmptySheet};
-ghost use Rattle.workbook_core.specs.Held.{cells_in, turned, AreOnSheets, SetsHeld};
+ghost use Rattle.workbook_core.specs.Held.{cells_in, turned, same_turned, AreOnSheets, SetsHeld};
+ghost use Rattle.workbook_core.specs.declared.cells.ColumnFirst.{ColumnFirst};
 
 use crate::Content;
 use cell_values::{Addr, LAST_COLUMN, LAST_ROW};
@@ -136,6 +138,17 @@ impl CellMap {
         }
     }
 
+    /// Lays the cells out anew, in as few nodes as they need.
+    pub(crate) fn pack(&mut self, alloc: Global) -> Result<(), AllocError>
+        ensures { self.new ≡ self.old }
+    {
+        let by_row = packed_rows(alloc, &self.by_row)?;
+        let by_column = packed_columns(alloc, &self.by_column)?;
+        self.by_row = by_row;
+        self.by_column = by_column;
+        Ok(())
+    }
+
     /// The last row and the last column that hold a cell of a sheet.
     pub(crate) fn extent(&self, sheet: u8) -> Option<(u32, u16)>
         requires { AreOnSheets self.now }
@@ -188,4 +201,27 @@ impl CellMap {
             None => None,
         }
     }
+}
+
+/// The same cells in nodes that are full.
+fn packed_rows(
+    alloc: Global,
+    cells: &BTreeMap<Addr, Content>,
+) -> Result<BTreeMap<Addr, Content>, AllocError>
+    ensures { IfOk result (λ m. m.entries ≡ cells.now.entries) }
+{
+    cells
+        .iter()
+        .map(|(at, content)| (*at, *content))
+        .collect(alloc)
+}
+
+/// The same addresses in nodes that are full.
+fn packed_columns(
+    alloc: Global,
+    addresses: &BTreeSet<ColumnFirst>,
+) -> Result<BTreeSet<ColumnFirst>, AllocError>
+    ensures { IfOk result (λ s. (k : ColumnFirst) → list_any (same_turned k) s.keys ≡ list_any (same_turned k) addresses.now.keys) }
+{
+    addresses.iter().copied().collect(alloc)
 }

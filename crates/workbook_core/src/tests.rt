@@ -82,6 +82,7 @@ fn walks_cells(rt: HostRuntime) -> Result<(), Fail> {
     put(alloc, &mut book, cell(0, 3, 2), "1")?;
     put(alloc, &mut book, cell(0, 2, 4), "2")?;
     put(alloc, &mut book, cell(1, 9, 1), "3")?;
+    book.pack(alloc)?;
     assert_eq!(rt; book.next_cell(None), Some(cell(0, 2, 4)));
     assert_eq!(rt; book.next_cell(Some(cell(0, 2, 4))), Some(cell(0, 3, 2)));
     assert_eq!(rt; book.next_cell(Some(cell(1, 9, 1))), None);

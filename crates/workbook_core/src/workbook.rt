@@ -239,6 +239,13 @@ impl Workbook {
         }
     }
 
+    /// Lays the cells out anew, in as little memory as they need.
+    pub fn pack(&mut self, alloc: Global) -> Result<(), AllocError>
+        ensures { self.new ≡ self.old }
+    {
+        self.cells.pack(alloc)
+    }
+
     /// Exchanges the cells with others that fit the workbook's sheets and texts. It takes no memory, and undoes itself.
     pub fn swap_cells(&mut self, apart: &mut CellsApart)
         requires { IsWorkbook (with_cells self.old apart.old) }
