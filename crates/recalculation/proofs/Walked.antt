@@ -1,17 +1,20 @@
 -- The support of a workbook, by a walk over its cells.
-use Rattle.std.proofs.Common.{◌≡◌, ◌<◌, ◌≤◌, Bool, true, false, cond, inl, inr, [], ◌∷◌, length, Option, Some, None, option_map, refl, sym, ap, ◌∙◌, subst, arith}
+use Rattle.std.proofs.Common.{◌≡◌, ℕ, zero, suc, ◌<◌, ◌≤◌, ◌%◌, ◌==◌, Bool, true, false, not, ◌&&◌, ◌||◌, cond, inl, inr, List, [], ◌∷◌, length, Option, Some, None, option_map, refl, sym, ap, ◌∙◌, subst, arith}
 use Rattle.std.specs.List.{filter}
+use Rattle.std.proofs.lemmas.Nat.{mod_below}
 use Rattle.cell_values.specs.declared.address.Addr.{Addr}
+use Rattle.cell_values.specs.declared.address.Area.{Area}
 use Rattle.cell_values.specs.Addresses.{same_addr, IsBefore}
 use Rattle.cell_values.specs.Order.{InOrder, addresses, entry_at}
 use Rattle.cell_values.proofs.Order.{same_addr-true, same_addr-sym, before_trans}
 use Rattle.formula_trees.specs.Mentions.{areas}
 use Rattle.demand_spec.specs.Book.{Book, Content, formula_of, formula_at}
 use Rattle.demand_spec.specs.Edits.{Cells, is_before}
+use Rattle.demand_spec.specs.Laws.{Set}
 use Rattle.demand_spec.proofs.OneList.{before_found}
 use Rattle.support_graph.specs.Support.{CellAreas, IsSupportOf}
 use Rattle.workbook_core.specs.Books.{lies_after, next_in}
-use Rattle.recalculation.specs.Standing.{areas_at, Links}
+use Rattle.recalculation.specs.Standing.{areas_at, with_half, Links, LinksAlone}
 
 -- the order of addresses, as a test
 
@@ -109,34 +112,91 @@ fewer_behind cells o x e = count cells e
         go false h m true f later = (let z : false ≡ true = sym h ∙ through y f in absurd cc)
         go false h m false f later = later m
 
--- the support has the cells up to an address
+-- a pass over every second row
 
-abbrev pub IsWalkedTo : Book → Option Addr → CellAreas → Type 0
-IsWalkedTo b o s = (c : Addr) → entry_at s c ≡ cond (lies_after o c) None (areas_at b c)
+-- the cells of a set, and those in every second row up to an address
+abbrev pub walked_to : ℕ → Set → Option Addr → Set
+walked_to rest cells o c = cells c || ((c.row % 2 == rest) && not (lies_after o c))
 
 no_areas : (b : Book) (c : Addr) → entry_at b.cells c ≡ None → areas_at b c ≡ None
 unfolding formula_at
 no_areas b c e = ap (λ x. option_map (areas c) (formula_of x)) e
 
-pub walk_goes : (b : Book) (o : Option Addr) (x : Addr) (s s' : CellAreas) → InOrder (addresses b.cells) → next_in b.cells o ≡ Some x → Links b x s s' → IsWalkedTo b o s → IsWalkedTo b (Some x) s'
-walk_goes b o x s s' order e l k c = l c ∙ go (same_addr x c) refl
+nothing_either : (u v : Bool) (o : Option (List Area)) → o ≡ None → cond u o None ≡ cond v o None
+nothing_either true true o e = refl
+nothing_either true false o e = e
+nothing_either false true o e = sym e
+nothing_either false false o e = refl
+
+or_true : (t : Bool) → (t || true) ≡ true
+or_true true = refl
+or_true false = refl
+
+and_true : (t : Bool) → (t && true) ≡ t
+and_true true = refl
+and_true false = refl
+
+or_nothing : (u t : Bool) → (u || (t && false)) ≡ u
+or_nothing true t = refl
+or_nothing false true = refl
+or_nothing false false = refl
+
+pub walk_starts : (b : Book) (rest : ℕ) (cells : Set) (s : CellAreas) → LinksAlone b cells s → LinksAlone b (walked_to rest cells None) s
+walk_starts b rest cells s k c = k c ∙ ap (λ u. cond u (areas_at b c) None) (sym (or_nothing (cells c) (c.row % 2 == rest)))
+
+module _ (b : Book) (rest : ℕ) (cells : Set) (o : Option Addr) (x : Addr) (order : InOrder (addresses b.cells)) (e : next_in b.cells o ≡ Some x) where
+  -- another cell than the next one
+  still : (c : Addr) → same_addr x c ≡ false → cond (walked_to rest cells o c) (areas_at b c) None ≡ cond (walked_to rest cells (Some x) c) (areas_at b c) None
+  still c f = go (lies_after o c) (is_before x c) refl refl
+    where
+      go : (p q : Bool) → lies_after o c ≡ p → is_before x c ≡ q →
+          cond (cells c || ((c.row % 2 == rest) && not p)) (areas_at b c) None ≡ cond (cells c || ((c.row % 2 == rest) && not q)) (areas_at b c) None
+      go true true h i = refl
+      go true false h i =
+          nothing_either (cells c || ((c.row % 2 == rest) && false)) (cells c || ((c.row % 2 == rest) && true)) (areas_at b c) (no_areas b c (none_between b.cells order o x e c h i f))
+      go false true h i = (let z : true ≡ false = sym (after_through o x c (next_after b.cells o x e) i) ∙ h in absurd cc)
+      go false false h i = refl
+
+  pub walk_links : (s t : CellAreas) → x.row % 2 ≡ rest → Links b x s t → LinksAlone b (walked_to rest cells o) s → LinksAlone b (walked_to rest cells (Some x)) t
+  walk_links s t is l k c = l c ∙ go (same_addr x c) refl
+    where
+      here : (x.row % 2 == rest) ≡ true
+      here = grind (arith, is)
+
+      taken : walked_to rest cells (Some x) x ≡ true
+      taken = ap (λ u. cells x || (u && not (is_before x x))) here ∙ ap (λ u. cells x || not u) (before_itself x) ∙ or_true (cells x)
+
+      go : (q : Bool) → same_addr x c ≡ q → cond q (areas_at b x) (entry_at s c) ≡ cond (walked_to rest cells (Some x) c) (areas_at b c) None
+      go true f = subst (λ z. areas_at b x ≡ cond (walked_to rest cells (Some x) z) (areas_at b z) None) (same_addr-true x c f) (ap (λ q. cond q (areas_at b x) None) (sym taken))
+      go false f = k c ∙ still c f
+
+  pub walk_passes : (s : CellAreas) → (x.row % 2 ≡ rest → ⊥) → LinksAlone b (walked_to rest cells o) s → LinksAlone b (walked_to rest cells (Some x)) s
+  walk_passes s isnt k c = k c ∙ go (same_addr x c) refl
+    where
+      here : (x.row % 2 == rest) ≡ false
+      here = grind (arith, isnt)
+
+      neither : walked_to rest cells o x ≡ walked_to rest cells (Some x) x
+      neither = ap (λ u. cells x || (u && not (lies_after o x))) here ∙ sym (ap (λ u. cells x || (u && not (is_before x x))) here)
+
+      go : (q : Bool) → same_addr x c ≡ q → cond (walked_to rest cells o c) (areas_at b c) None ≡ cond (walked_to rest cells (Some x) c) (areas_at b c) None
+      go true f = subst (λ z. cond (walked_to rest cells o z) (areas_at b z) None ≡ cond (walked_to rest cells (Some x) z) (areas_at b z) None) (same_addr-true x c f) (ap (λ q. cond q (areas_at b x) None) neither)
+      go false f = still c f
+
+pub walk_ends : (b : Book) (rest : ℕ) (cells : Set) (o : Option Addr) (s : CellAreas) → next_in b.cells o ≡ None → LinksAlone b (walked_to rest cells o) s → LinksAlone b (with_half rest cells) s
+walk_ends b rest cells o s e k c = k c ∙ go (lies_after o c) refl
   where
-    other : (p q : Bool) → lies_after o c ≡ p → is_before x c ≡ q → same_addr x c ≡ false → cond p None (areas_at b c) ≡ cond q None (areas_at b c)
-    other true true h i f = refl
-    other true false h i f = sym (no_areas b c (none_between b.cells order o x e c h i f))
-    other false true h i f = (let z : true ≡ false = sym (after_through o x c (next_after b.cells o x e) i) ∙ h in absurd cc)
-    other false false h i f = refl
+    go : (p : Bool) → lies_after o c ≡ p → cond (cells c || ((c.row % 2 == rest) && not p)) (areas_at b c) None ≡ cond (cells c || (c.row % 2 == rest)) (areas_at b c) None
+    go true h = nothing_either (cells c || ((c.row % 2 == rest) && false)) (cells c || (c.row % 2 == rest)) (areas_at b c) (no_areas b c (next_none b.cells o e c h))
+    go false h = ap (λ u. cond (cells c || u) (areas_at b c) None) (and_true (c.row % 2 == rest))
 
-    here : x ≡ c → areas_at b x ≡ cond (is_before x c) None (areas_at b c)
-    here same = ap (areas_at b) same ∙ ap (λ q. cond q None (areas_at b c)) (sym (ap (is_before x) (sym same) ∙ before_itself x))
+-- both passes go over all rows
 
-    go : (q : Bool) → same_addr x c ≡ q → cond q (areas_at b x) (entry_at s c) ≡ cond (is_before x c) None (areas_at b c)
-    go true f = here (same_addr-true x c f)
-    go false f = k c ∙ other (lies_after o c) (is_before x c) refl refl f
+one_rest : (n : ℕ) → n < 2 → ((n == 0) || (n == 1)) ≡ true
+one_rest zero l = refl
+one_rest (suc zero) l = refl
+one_rest (suc (suc n)) l = absurd (omega (arith, l))
 
-pub walk_ends : (b : Book) (o : Option Addr) (s : CellAreas) → next_in b.cells o ≡ None → IsWalkedTo b o s → IsSupportOf b s
-walk_ends b o s e k c = k c ∙ go (lies_after o c) refl
-  where
-    go : (p : Bool) → lies_after o c ≡ p → cond p None (areas_at b c) ≡ areas_at b c
-    go true h = sym (no_areas b c (next_none b.cells o e c h))
-    go false h = refl
+pub both_halves : (b : Book) (s t u : CellAreas) → s ≡ [] → ((cells : Set) → LinksAlone b cells s → LinksAlone b (with_half 0 cells) t) → ((cells : Set) → LinksAlone b cells t → LinksAlone b (with_half 1 cells) u) → IsSupportOf b u
+both_halves b s t u e h k c =
+    k (with_half 0 (λ a. false)) (h (λ a. false) (λ a. ap (λ z. entry_at z a) e)) c ∙ ap (λ q. cond q (areas_at b c) None) (one_rest (c.row % 2) (mod_below c.row 2 (omega arith)))

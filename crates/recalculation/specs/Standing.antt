@@ -1,5 +1,5 @@
 -- What is kept beside the workbook: its support, the pending cells and the results.
-use Rattle.std.specs.Prelude.{◌≡◌, true, false, cond, ◌⊎◌, List, [], IsSome, Option, Some, option_map}
+use Rattle.std.specs.Prelude.{◌≡◌, ℕ, ◌%◌, ◌==◌, ◌||◌, true, false, cond, ◌⊎◌, List, [], IsSome, Option, Some, None, option_map}
 use Rattle.cell_values.specs.declared.address.Addr.{Addr}
 use Rattle.cell_values.specs.declared.address.Area.{Area}
 use Rattle.cell_values.specs.Addresses.{same_addr}
@@ -31,6 +31,14 @@ IsLinkedBut b changed s = (c : Addr) → changed c ≡ false → entry_at s c �
 -- the new support has these areas of one cell, and the old one's of the others
 abbrev pub Links : Book → Addr → CellAreas → CellAreas → Type 0
 Links b at old new = (c : Addr) → entry_at new c ≡ cond (same_addr at c) (areas_at b at) (entry_at old c)
+
+-- the support has the areas of the cells of a set, and of no others
+abbrev pub LinksAlone : Book → Set → CellAreas → Type 0
+LinksAlone b cells s = (c : Addr) → entry_at s c ≡ cond (cells c) (areas_at b c) None
+
+-- the cells of a set, and those in every second row
+abbrev pub with_half : ℕ → Set → Set
+with_half rest cells c = cells c || (c.row % 2 == rest)
 
 -- it is right for the book but for the cells that changed: the support has the other cells' areas; the pending cells
 -- are formula cells, with all that mention them; and what no changed cell reaches has its result, unless it is pending

@@ -146,7 +146,18 @@ impl Calc {
     pub fn build(&mut self) -> Result<(), AllocError>
         ensures { self.new ≡ self.old }
     {
+        self.pack()?;
         self.progress.build(&self.book)
+    }
+
+    /// Lays the workbook out anew where its support is still to be built.
+    fn pack(&mut self) -> Result<(), AllocError>
+        ensures { self.new ≡ self.old }
+    {
+        if self.progress.built {
+            return Ok(());
+        }
+        self.book.pack(self.progress.alloc)
     }
 
     /// The pending cells, in order of address. None where `build` is still due: then all formula cells are pending.
@@ -177,6 +188,7 @@ impl Calc {
         ensures summary { IfOk result (IsSummaryOf self.old.shared.book self.old.pending workers) }
         ensures err { OnErr result (self.new ≡ self.old) }
     {
+        self.pack()?;
         self.progress.compute(rt, &self.book, workers, pace)
     }
 
@@ -201,6 +213,7 @@ impl Calc {
         ensures trace { OnOk result (trace.new.items ≡ trace.old.items ++ run_order self.old.shared.book self.old.pending workers order.now stopped.now) }
         ensures err { OnErr result ((self.new ≡ self.old) × (trace.new.items ≡ trace.old.items)) }
     {
+        self.pack()?;
         self.progress
             .compute_in_order(&self.book, workers, order, stopped, trace)
     }

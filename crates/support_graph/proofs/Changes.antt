@@ -18,11 +18,6 @@ changes_one {K} cmp same alike k present ok old new h = record { others = others
     done : (q : K) → same k q ≡ true → list_any (same q) new ≡ present
     done q p = turned q ∙ (λ i. cond (p i) present (list_any (same q) old))
 
--- the same keys
-pub same_keys : {K : Type 0} (cmp : K → K → Ordering) (same : K → K → Bool) → ((a b : K) → is_eq (cmp a b) ≡ same a b) → (old new : List K)
-    → ((q : K) → list_any (λ x. is_eq (cmp q x)) new ≡ list_any (λ x. is_eq (cmp q x)) old) → (q : K) → list_any (same q) new ≡ list_any (same q) old
-same_keys cmp same alike old new h q = sym (any_same cmp same alike q new) ∙ h q ∙ any_same cmp same alike q old
-
 pub changes_nothing : {K : Type 0} (has : List K → K → Bool) (test : K → Bool) (present ok : Bool) (keys : List K) → ((k : K) → test k ≡ false) → Changes has test present ok keys keys
 changes_nothing {K} has test present ok keys h = record { others = λ k p. refl; done = λ o k p. absurd (none k p) }
   where

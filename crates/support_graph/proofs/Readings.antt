@@ -35,24 +35,6 @@ reader_area readers x h = any_more (same_reader x) (λ (y : Reader). same_corner
 same_reader-refl : (x : Reader) → same_reader x x ≡ true
 same_reader-refl x = and_both (same_corners x.area x.area) (same_addr x.cell x.cell) (same_corners-refl x.area) (same_addr-refl x.cell)
 
--- lists with the same readers read the same areas, and what the areas are cut into stays
-same_areas : (x y : List Reader) → ((r : Reader) → has_reader y r ≡ has_reader x r) → (b : Corners) → has_area y b ≡ has_area x b
-same_areas x y h b = both (has_area y b) (has_area x b) to from
-  where
-    to : has_area y b ≡ true → has_area x b ≡ true
-    to e = (let r = area_reader y b e in reader_area x (reader b r.0) (sym (h (reader b r.0)) ∙ r.1))
-
-    from : has_area x b ≡ true → has_area y b ≡ true
-    from e = (let r = area_reader x b e in reader_area y (reader b r.0) (h (reader b r.0) ∙ r.1))
-
-pub indexed_anew : (s : CellAreas) (keys new : List Key) (x y : List Reader) → ((k : Key) → has_key new k ≡ has_key keys k) → ((r : Reader) → has_reader y r ≡ has_reader x r) → IsIndexed s keys x → IsIndexed s new y
-indexed_anew s keys new x y h g i = record {
-  in_order = i.in_order;
-  areas = i.areas;
-  reads = λ r. g r ∙ i.reads r;
-  cut = λ k. h k ∙ (i.cut k ∙ (λ j. sym (same_areas x y g k.area) j && is_block_of (area_between k.area) k.block));
-}
-
 -- a reader of one area changes no other area
 pub area_other : (a : Corners) (cell : Addr) (present ok : Bool) (x y : List Reader) → SetsReaders (same_reader (reader a cell)) present ok x y → (b : Corners) → same_corners a b ≡ false → has_area y b ≡ has_area x b
 area_other a cell present ok x y sets b e = both (has_area y b) (has_area x b) to from

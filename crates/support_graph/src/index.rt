@@ -1,12 +1,10 @@
 //! The areas that cells read: the blocks that each area is cut into, kept once however many cells read
 //! it, and the cells that read each area.
 
-ghost use Rattle.std.specs.Prelude.{◌≡◌, ◌≤◌, true, false, [], is_ok, IsOk, IfOk, OnOk, All};
-ghost use Rattle.support_graph.specs.declared.block.Key.{Key};
-ghost use Rattle.support_graph.specs.declared.block.Reader.{Reader};
+ghost use Rattle.std.specs.Prelude.{◌≡◌, ◌≤◌, true, false, [], is_ok, IsOk, OnOk, All};
 ghost use Rattle.cell_values.specs.declared.address.Addr.{Addr};
 ghost use Rattle.cell_values.specs.Areas.{IsArea};
-ghost use Rattle.support_graph.specs.Blocks.{corners, area_between, same_key, same_reader, has_key, has_reader, has_area, zero_addr, key_before, reader_before, next_corners};
+ghost use Rattle.support_graph.specs.Blocks.{corners, area_between, same_key, same_reader, has_reader, has_area, zero_addr, key_before, reader_before, next_corners};
 ghost use Rattle.support_graph.specs.Support.{AreCut};
 ghost use Rattle.support_graph.specs.Steps.{Sets, SetsReaders, Visits, AreSeen, EndInSheet, InBlocks, InColumn, is_end_key, is_level_key, is_column_key, is_area_key, is_cell_reader};
 
@@ -34,30 +32,6 @@ impl Index {
             readers: BTreeSet::new(alloc),
         }
     }
-
-    /// Lays both sets out anew, in as few nodes as they need. They have the same keys, in each case.
-    pub(crate) fn pack(&mut self, alloc: Global) -> Result<(), AllocError>
-        ensures blocks { (k : Key) → has_key self.new.blocks.keys k ≡ has_key self.old.blocks.keys k }
-        ensures readers { (x : Reader) → has_reader self.new.readers.keys x ≡ has_reader self.old.readers.keys x }
-    {
-        self.blocks = packed_blocks(alloc, &self.blocks)?;
-        self.readers = packed_readers(alloc, &self.readers)?;
-        Ok(())
-    }
-}
-
-/// The same blocks in nodes that are full.
-fn packed_blocks(alloc: Global, blocks: &BTreeSet<Key>) -> Result<BTreeSet<Key>, AllocError>
-    ensures { IfOk result (λ s. (k : Key) → has_key s.keys k ≡ has_key blocks.now.keys k) }
-{
-    blocks.iter().copied().collect(alloc)
-}
-
-/// The same readers in nodes that are full.
-fn packed_readers(alloc: Global, readers: &BTreeSet<Reader>) -> Result<BTreeSet<Reader>, AllocError>
-    ensures { IfOk result (λ s. (x : Reader) → has_reader s.keys x ≡ has_reader readers.now.keys x) }
-{
-    readers.iter().copied().collect(alloc)
 }
 
 /// Puts a key in or takes it out. Only putting in takes memory.

@@ -66,14 +66,6 @@ impl Support {
         put_cell(self.alloc, &mut self.cells, &mut self.index, cell, areas)
     }
 
-    /// Lays the index out anew, in as few nodes as it needs: a support that was filled cell by cell takes half the memory
-    /// then. What it says stays, in each case.
-    pub fn pack(&mut self) -> Result<(), AllocError>
-        ensures { self.new ≡ self.old }
-    {
-        self.index.pack(self.alloc)
-    }
-
     /// Takes out a cell. One that is not there changes nothing.
     pub fn drop_cell(&mut self, cell: Addr)
         ensures { (c : Addr) → entry_at self.new c ≡ cond (same_addr cell c) None (entry_at self.old c) }

@@ -174,7 +174,6 @@ fn whole_columns_and_a_long_chain(rt: HostRuntime) -> Result<(), Fail> {
     // 100,000 cells. The first half stands in column A, so that each of its cells is read by the 40,000.
     add_chain(&mut support, 1, rows(1, 1, 10), 50_000)?;
     add_chain(&mut support, 4, rows(50_000, 50_000, 1), 50_000)?;
-    support.pack()?;
     assert_eq!(rt; readers(rt, &support, cell(65_536, 1))?, 40_000);
     assert_eq!(rt; readers(rt, &support, cell(50_000, 1))?, 40_001);
     assert_eq!(rt; readers(rt, &support, cell(1, 10))?, 1);
@@ -215,7 +214,6 @@ fn one_large_area_that_many_cells_read(rt: HostRuntime) -> Result<(), Fail> {
     assert_eq!(rt; readers(rt, &support, cell(1, 1))?, 40_000);
     assert_eq!(rt; readers(rt, &support, cell(256, 256))?, 40_000);
     assert_eq!(rt; readers(rt, &support, cell(257, 256))?, 0);
-    support.pack()?;
     // The blocks of the area stay as long as a cell reads it.
     drop_readers(&mut support, 40_000);
     assert_eq!(rt; readers(rt, &support, cell(256, 256))?, 1);
