@@ -6,6 +6,7 @@ use Rattle.demand_stack.specs.declared.notes.Note.{Note}
 use Rattle.demand_stack.specs.declared.notes.Marks.{Marks}
 use Rattle.demand_stack.specs.Notes.{note_of, noted}
 use Rattle.demand_stack.specs.Open.{blank}
+use Rattle.demand_stack.specs.Recall.{known_of}
 use Rattle.worker_machine.proofs.Numbers.{KnownList}
 
 -- the marks of a cell that was not met
@@ -38,6 +39,13 @@ marks_set [] (y ∷ ms) i m e = cc
 marks_set (x ∷ ks) [] i m e = cc
 marks_set (x ∷ ks) (y ∷ ms) zero m e = refl
 marks_set (x ∷ ks) (y ∷ ms) (suc i) m e = ap (λ z. note_of x y ∷ z) (marks_set ks ms i m (omega arith))
+
+-- what is known is the first of the two
+pub known_noted : (ks : KnownList) (ms : List Marks) → length ks ≡ length ms → known_of (noted ks ms) ≡ ks
+known_noted [] [] e = refl
+known_noted [] (m ∷ ms) e = cc
+known_noted (k ∷ ks) [] e = cc
+known_noted (k ∷ ks) (m ∷ ms) e = ap (λ z. k ∷ z) (known_noted ks ms (omega arith))
 
 noted_none : (n : ℕ) → noted (replicate n None) (replicate n unmarked) ≡ replicate n blank
 noted_none zero = refl

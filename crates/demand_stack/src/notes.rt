@@ -2,6 +2,7 @@
 ghost use Rattle.std.specs.Prelude.{◌≡◌, ◌<◌, false, Some, None, length, get_or, set, replicate, is_some, IfOk};
 ghost use Rattle.demand_stack.specs.Open.{blank};
 ghost use Rattle.demand_stack.specs.Kept.{cycled};
+ghost use Rattle.demand_stack.specs.Recall.{known_of};
 
 use cell_values::Shown;
 use result_list::ResultList;
@@ -163,5 +164,13 @@ impl Notes {
     {
         self.results.forget_all();
         self.marks.fill(UNMARKED);
+    }
+
+    /// What is known of all cells.
+    pub fn into_results(self) -> ResultList
+        ensures { result ≡ known_of self }
+    {
+        let Notes { results, marks: _ } = self;
+        results
     }
 }

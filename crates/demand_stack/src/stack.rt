@@ -15,6 +15,7 @@ use crate::recalled::{Recalled, number_in};
 use cell_values::{Addr, Shown};
 use demand_spec::Results;
 use formula_eval::{Asked, Frames, law_drops_to_base, law_stands_on, law_stands_ready};
+use result_list::ResultList;
 use std::alloc::{AllocError, Global};
 use std::marker::Model;
 use workbook_core::BookWith;
@@ -247,5 +248,23 @@ impl<'b> DemandStack<'b> {
         law_stands_on();
         let count = abandon_to(&mut self.frames, &self.stack, &self.notes, i);
         note_cycle(&self.stack, &mut self.notes, i, count as u32);
+    }
+
+    /// The list of what it knows, one entry for each pending cell. All else is dropped.
+    pub fn into_results(self) -> ResultList
+        ensures { result ≡ self.entry.known }
+    {
+        let DemandStack {
+            book: _,
+            cells: _,
+            stored: _,
+            stack: _,
+            notes,
+            frames: _,
+            first: _,
+            ahead: _,
+            passed: _,
+        } = self;
+        notes.into_results()
     }
 }

@@ -1,9 +1,14 @@
 -- Lists that were lent, and the passes of a round.
-use Rattle.std.proofs.Common.{◌≡◌, ◌∙◌, ◌+◌, ℕ, zero, suc, true, None, List, [], ◌∷◌, ◌++◌, length, map, take, drop, reverse, append_assoc, refl, sym, ap, subst, arith}
-use Rattle.std.proofs.lemmas.List.{length-map, reverse-append}
+use Rattle.std.proofs.Common.{◌≡◌, ◌∙◌, ◌+◌, ℕ, zero, suc, true, Some, None, Option, List, [], ◌∷◌, ◌++◌, length, map, take, drop, reverse, append_assoc, refl, sym, ap, subst, arith}
+use Rattle.std.proofs.lemmas.List.{length-map, reverse-append, ext_get_or, get_or-map}
 use Rattle.std.proofs.lemmas.List.Elements.{All-append, All-take, All-drop}
+use Rattle.cell_values.specs.declared.address.Addr.{Addr}
+use Rattle.cell_values.specs.declared.values.Shown.{Shown}
+use Rattle.demand_spec.specs.Book.{shown}
 use Rattle.claim_core.specs.Table.{count_from}
 use Rattle.claim_core.specs.Passes.{RoundSeen, PassSeen, IsFresh, number}
+use Rattle.worker_machine.specs.Jobs.{Pending}
+use Rattle.worker_machine.specs.Evaluation.{KnowsAll}
 use Rattle.speculative_eval.specs.Hinted.{HintsSeen, hints_with}
 use Rattle.speculative_eval.specs.Workers.{IsWorkerOf, begun}
 use Rattle.parallel_evaluation.specs.Workers.{begun_in}
@@ -54,3 +59,9 @@ hired_next {A} {B} {C} f ws ws' ps rest hs left p h w popped taken pushed made =
 -- what holds of each element holds of each but one
 pub but_one : {A : Type 0} (P : A → Type 0) (xs : List A) (k : ℕ) → All P xs → All P (take k xs ++ drop (k + 1) xs)
 but_one P xs k h = All-append P (take k xs) (drop (k + 1) xs) (All-take P k xs h) (All-drop P (k + 1) xs h)
+
+-- where each cell is known, the list says what the book shows at each
+pub all_known : (ps : Pending) (known : List (Option Shown)) → length known ≡ length ps.cells → KnowsAll ps known → known ≡ map (λ (a : Addr). Some (shown ps.book a)) ps.cells
+all_known ps known sized all =
+    ext_get_or None known (map (λ (a : Addr). Some (shown ps.book a)) ps.cells) (sized ∙ sym (length-map ps.cells (λ (a : Addr). Some (shown ps.book a))))
+    (λ i low. all i (omega arith) ∙ sym (get_or-map (λ (a : Addr). Some (shown ps.book a)) ps.cells i (record { sheet = 0; row = 0; col = 0 }) None (omega arith)))

@@ -1,6 +1,6 @@
 //! A round by workers in threads, from its opening to its close.
 
-ghost use Rattle.std.specs.Prelude.{◌≡◌, ◌≤◌, [], map, IfOk, OnOk, OnErr};
+ghost use Rattle.std.specs.Prelude.{◌≡◌, ◌≤◌, Some, map, IfOk, OnOk, OnErr};
 ghost use Rattle.demand_spec.specs.Book.{shown};
 ghost use Rattle.claim_core.specs.Pending.{IsPending};
 ghost use Rattle.claim_core.specs.Rule.{Each, WorkersBelow};
@@ -13,9 +13,10 @@ use crate::hiring::hire;
 use crate::passes::take_all_back;
 use crate::summary::{Counts, Summary};
 use crate::threads::finish_all;
-use cell_values::{Addr, Shown};
+use cell_values::Addr;
 use claim_core::{Job, Outcome, Round};
 use demand_spec::Results;
+use result_list::ResultList;
 use std::alloc::{AllocError, Global};
 use std::marker::Sync;
 use std::thread::Threads;
@@ -32,24 +33,22 @@ fn run_round<'b, R: Threads + Sync, P: Pace>(
     stored: &'b Results,
     workers: u8,
     pace: &P,
-    results: &mut Vec<Shown>,
+    results: &mut ResultList,
 ) -> Result<Outcome, AllocError>
     requires pending { IsPending book.now.book cells.now }
     requires workers { (1 ≤ workers) × (workers ≤ 64) }
     requires stored { AreStored (record { book = book.now.book; cells = cells.now }) stored.now.entries }
-    requires results { results.old.items ≡ [] }
     ensures over { IfOk result (IsRoundOver book.now.book cells.now workers) }
     ensures numbers { IfOk result (λ o. Each o.words (WorkersBelow workers)) }
-    ensures results { OnOk result (results.new.items ≡ map (shown book.now.book) cells.now) }
-    ensures err { OnErr result (results.new.items ≡ []) }
+    ensures results { OnOk result (results.new ≡ map (λ a. Some (shown book.now.book a)) cells.now) }
+    ensures err { OnErr result (results.new ≡ results.old) }
 {
-    results.reserve(cells.len())?;
     let mut back = Vec::with_capacity(alloc, workers as usize)?;
     let ends = deal(alloc, cells.len() as u32, workers)?;
     let (round, passes) = Round::open(alloc, Job::new(book, cells), workers)?;
     let mut all = hire(alloc, &round, passes, ends, book, cells, stored)?;
     finish_all(rt, &round, pace, all.as_mut_slice());
-    take_all_back(&round, all, cells.len() as u32, &mut back, results);
+    *results = take_all_back(&round, all, &mut back);
     Ok(round.close(back))
 }
 
@@ -59,7 +58,7 @@ fn run_round<'b, R: Threads + Sync, P: Pace>(
 ///
 /// The cells are dealt to the workers: each begins with its part, in order, and then steals from the parts of others.
 ///
-/// It fails where memory runs out, before any worker starts; `results` is empty then.
+/// It fails where memory runs out, before any worker starts; `results` is as it was then.
 pub fn evaluate<R: Threads + Sync, P: Pace>(
     rt: &R,
     alloc: Global,
@@ -68,17 +67,17 @@ pub fn evaluate<R: Threads + Sync, P: Pace>(
     stored: &Results,
     workers: u8,
     pace: &P,
-    results: &mut Vec<Shown>,
+    results: &mut ResultList,
 ) -> Result<Summary, AllocError>
     requires pending { ArePending book.now.book cells.now }
     requires workers { (1 ≤ workers) × (workers ≤ 64) }
     requires stored { AreStored (record { book = book.now.book; cells = cells.now }) stored.now.entries }
-    ensures results { OnOk result (results.new.items ≡ map (shown book.now.book) cells.now) }
+    ensures results { OnOk result (results.new ≡ map (λ a. Some (shown book.now.book a)) cells.now) }
     ensures summary { IfOk result (IsSummaryOf book.now.book cells.now workers) }
-    ensures err { OnErr result (results.new.items ≡ []) }
+    ensures err { OnErr result (results.new ≡ results.old) }
 {
-    results.clear();
     if cells.is_empty() {
+        *results = ResultList::new(alloc, 0)?;
         return Ok(Summary::of_no_round(alloc));
     }
     let claimed = Counts::zeros(alloc, workers)?;

@@ -1,6 +1,6 @@
 //! A round whose workers step one at a time, in an order that is given.
 
-ghost use Rattle.std.specs.Prelude.{◌≡◌, ◌≤◌, ◌<◌, ◌++◌, false, [], map, length, All, IfOk, OnOk, OnErr};
+ghost use Rattle.std.specs.Prelude.{◌≡◌, ◌≤◌, ◌<◌, ◌++◌, false, Some, map, length, All, IfOk, OnOk, OnErr};
 ghost use Rattle.demand_spec.specs.Book.{shown};
 ghost use Rattle.claim_core.specs.Pending.{IsPending};
 ghost use Rattle.claim_core.specs.Rule.{Each, WorkersBelow};
@@ -15,9 +15,10 @@ use crate::passes::take_back;
 use crate::summary::{Counts, Summary};
 use crate::trace::Traced;
 use crate::turns::run_all;
-use cell_values::{Addr, Shown};
+use cell_values::Addr;
 use claim_core::{Job, Outcome, Round};
 use demand_spec::Results;
+use result_list::ResultList;
 use std::alloc::{AllocError, Global};
 use workbook_core::Workbook;
 
@@ -44,21 +45,19 @@ fn run_round_in_order<'b>(
     order: &[u8],
     stopped: &[u8],
     trace: &mut Vec<Traced>,
-    results: &mut Vec<Shown>,
+    results: &mut ResultList,
 ) -> Result<Outcome, AllocError>
     requires pending { IsPending book.now.book cells.now }
     requires workers { (1 ≤ workers) × (workers ≤ 64) }
     requires stored { AreStored (record { book = book.now.book; cells = cells.now }) stored.now.entries }
     requires order { All (λ w. w < workers) order.now }
     requires stopped { length stopped.now < workers }
-    requires results { results.old.items ≡ [] }
     ensures over { IfOk result (IsRoundOver book.now.book cells.now workers) }
     ensures numbers { IfOk result (λ o. Each o.words (WorkersBelow workers)) }
-    ensures results { OnOk result (results.new.items ≡ map (shown book.now.book) cells.now) }
+    ensures results { OnOk result (results.new ≡ map (λ a. Some (shown book.now.book a)) cells.now) }
     ensures trace { OnOk result (trace.new.items ≡ trace.old.items ++ (whole_run (record { book = book.now.book; cells = cells.now; workers = workers }) order.now stopped.now).events) }
-    ensures err { OnErr result ((results.new.items ≡ []) × (trace.new.items ≡ trace.old.items)) }
+    ensures err { OnErr result ((results.new ≡ results.old) × (trace.new.items ≡ trace.old.items)) }
 {
-    results.reserve(cells.len())?;
     let mut back = Vec::with_capacity(alloc, workers as usize)?;
     let mut events = Vec::new(alloc);
     let hints = no_hints(alloc, workers)?;
@@ -74,7 +73,7 @@ fn run_round_in_order<'b>(
     )?;
     trace.append(&mut events)?;
     let first = all.remove(first_running(workers, stopped) as usize);
-    take_back(&round, first, all, cells.len() as u32, &mut back, results);
+    *results = take_back(&round, first, all, &mut back);
     Ok(round.close(back))
 }
 
@@ -83,7 +82,7 @@ fn run_round_in_order<'b>(
 /// first. A worker is named by its number, from 0; one that is finished makes no step. The steps are appended to
 /// `trace`. `results` and `stored` are those of `evaluate`, and where no cell is pending, no round is opened.
 ///
-/// It fails where memory runs out; `results` is empty then, and the trace as it was.
+/// It fails where memory runs out; `results` and the trace are as they were then.
 pub fn evaluate_in_order(
     alloc: Global,
     book: &Workbook,
@@ -93,20 +92,20 @@ pub fn evaluate_in_order(
     order: &[u8],
     stopped: &[u8],
     trace: &mut Vec<Traced>,
-    results: &mut Vec<Shown>,
+    results: &mut ResultList,
 ) -> Result<Summary, AllocError>
     requires pending { ArePending book.now.book cells.now }
     requires workers { (1 ≤ workers) × (workers ≤ 64) }
     requires stored { AreStored (record { book = book.now.book; cells = cells.now }) stored.now.entries }
     requires order { All (λ w. w < workers) order.now }
     requires stopped { length stopped.now < workers }
-    ensures results { OnOk result (results.new.items ≡ map (shown book.now.book) cells.now) }
+    ensures results { OnOk result (results.new ≡ map (λ a. Some (shown book.now.book a)) cells.now) }
     ensures summary { IfOk result (IsSummaryOf book.now.book cells.now workers) }
     ensures trace { OnOk result (trace.new.items ≡ trace.old.items ++ run_order book.now.book cells.now workers order.now stopped.now) }
-    ensures err { OnErr result ((results.new.items ≡ []) × (trace.new.items ≡ trace.old.items)) }
+    ensures err { OnErr result ((results.new ≡ results.old) × (trace.new.items ≡ trace.old.items)) }
 {
-    results.clear();
     if cells.is_empty() {
+        *results = ResultList::new(alloc, 0)?;
         return Ok(Summary::of_no_round(alloc));
     }
     let claimed = Counts::zeros(alloc, workers)?;

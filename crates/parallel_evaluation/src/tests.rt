@@ -1,6 +1,6 @@
 //! Rounds over small books, in threads and in a given order.
 
-ghost use Rattle.std.specs.Prelude.{◌≡◌, ◌∷◌, ◌<◌, ◌≤◌, length, map, option_map, All, IfOk, OnOk, IfSome};
+ghost use Rattle.std.specs.Prelude.{◌≡◌, ◌∷◌, ◌<◌, ◌≤◌, length, map, option_map, All, IfOk, OnOk, IfSome, Some};
 ghost use Rattle.cell_values.specs.Addresses.{IsOnSheet};
 ghost use Rattle.cell_values.specs.Order.{addresses, entry_at};
 ghost use Rattle.demand_spec.specs.Book.{formula_at, formula_of, shown};
@@ -13,9 +13,10 @@ ghost use Rattle.parallel_evaluation.specs.TestBooks.{AreAlone, AreFormulaCells,
 ghost use Rattle.parallel_evaluation.specs.Workers.{ArePending};
 
 use super::*;
-use cell_values::{Addr, SheetNames, Shown, Texts};
+use cell_values::{Addr, SheetNames, Texts};
 use cell_words::CellWord;
 use demand_spec::{BookView, Cell, PlainBook, Results, slow_shown};
+use result_list::ResultList;
 use shared_expressions::ExprId;
 use std::alloc::Global;
 use std::marker::Sync;
@@ -199,7 +200,7 @@ fn are_plain(
     alloc: Global,
     book: &Workbook,
     cells: &[Addr],
-    results: &[Shown],
+    results: &ResultList,
 ) -> Result<(), Fail> {
     let plain = plain_book(rt, alloc, book)?;
     let all = slow_shown(alloc, &plain, book.texts())?;
@@ -207,18 +208,24 @@ fn are_plain(
     for i in 0..all.len() {
         let (at, shown) = all[i];
         assert_eq!(rt; at, cells[i]);
-        assert_eq!(rt; shown, results[i], "{at:?}");
+        assert_eq!(rt; Some(shown), results.get(i), "{at:?}");
     }
     Ok(())
 }
 
 /// The results are those that stand behind `shows`.
-fn shows_all(rt: &impl Abort, alloc: Global, results: &[Shown], lines: &str) -> Result<(), Fail> {
+fn shows_all(
+    rt: &impl Abort,
+    alloc: Global,
+    results: &ResultList,
+    lines: &str,
+) -> Result<(), Fail> {
     let mut count: usize = 0;
     for line in lines.lines() {
         if let Some((_, want)) = line.split_once(" shows ") {
-            assert!(rt; count < results.len());
-            let shown = results[count];
+            let Some(shown) = results.get(count) else {
+                panic!(rt; "no result")
+            };
             assert_eq!(rt; format!(in alloc; "{shown:?}")?.as_str(), want, "{line}");
             count = count.saturating_add(1);
         }
@@ -268,7 +275,7 @@ fn evaluated<R: Abort + Threads + Sync, P: Pace>(
     let book = book_of(rt, alloc, lines)?;
     let cells = formula_cells(alloc, &book)?;
     let stored = Results::new(alloc);
-    let mut results = vec![in alloc; Shown::ToCycle]?;
+    let mut results = ResultList::new(alloc, 1)?;
     let summary = evaluate(
         rt,
         alloc,
@@ -393,7 +400,7 @@ fn steps_of(
     let stored = Results::new(alloc);
     let order = order_of(alloc, digits)?;
     let mut trace = Vec::new(alloc);
-    let mut results = Vec::new(alloc);
+    let mut results = ResultList::new(alloc, 0)?;
     let summary = evaluate_in_order(
         alloc,
         &book,
@@ -594,15 +601,18 @@ fn first_stored(
     book: &Workbook,
     first: Addr,
     rest: &[Addr],
-    results: &[Shown],
+    results: &ResultList,
 ) -> Result<Results, Fail>
     requires cells { AreFormulaCells book.now (first ∷ rest.now) }
-    requires results { results.now ≡ map (shown book.now.book) (first ∷ rest.now) }
+    requires results { results.now ≡ map (λ a. Some (shown book.now.book a)) (first ∷ rest.now) }
     ensures { IfOk result (λ stored. AreAlone book.now.book rest.now stored.entries) }
 {
     mentions_none(rt, alloc, book, first)?;
     let mut stored = Results::new(alloc);
-    stored.insert(first, results[0])?;
+    let Some(shown) = results.get(0) else {
+        panic!(rt; "no result")
+    };
+    stored.insert(first, shown)?;
     Ok(stored)
 }
 
@@ -617,7 +627,7 @@ fn alone_in_order(
     requires { AreAlone book.now.book rest.now stored.now.entries }
 {
     let mut trace = Vec::new(alloc);
-    let mut results = Vec::new(alloc);
+    let mut results = ResultList::new(alloc, 0)?;
     let summary = evaluate_in_order(
         alloc,
         book,
@@ -643,12 +653,12 @@ fn in_threads<R: Abort + Threads + Sync>(
     cells: &[Addr],
     stored: &Results,
     workers: u8,
-) -> Result<Vec<Shown>, Fail>
+) -> Result<ResultList, Fail>
     requires alone { AreAlone book.now.book cells.now stored.now.entries }
     requires workers { (1 ≤ workers) × (workers ≤ 64) }
-    ensures { IfOk result (λ results. results.items ≡ map (shown book.now.book) cells.now) }
+    ensures { IfOk result (λ results. results ≡ map (λ a. Some (shown book.now.book a)) cells.now) }
 {
-    let mut results = Vec::new(alloc);
+    let mut results = ResultList::new(alloc, 0)?;
     let summary = evaluate(
         rt,
         alloc,

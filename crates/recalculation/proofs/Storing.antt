@@ -1,11 +1,10 @@
 -- What stands in an ordered map of results after one more.
-use Rattle.std.proofs.Common.{◌≡◌, ℕ, ◌+◌, ◌<◌, zero, suc, Bool, true, false, cond, is_eq, List, [], ◌∷◌, map, length, get_or, Option, Some, None, IsSome, ◌⊎◌, inl, inr, refl, sym, ap, ◌∙◌, subst, pos, arith}
+use Rattle.std.proofs.Common.{◌≡◌, ℕ, ◌+◌, ◌<◌, zero, suc, Bool, true, false, cond, is_eq, List, [], ◌∷◌, map, length, get_or, Option, Some, None, IsSome, ◌⊎◌, inl, inr, refl, sym, ap, ◌∙◌, subst, arith}
 use Rattle.std.specs.Map.{lookup}
 use Rattle.std.proofs.lemmas.List.{get_or_default, get_or-map}
 use Rattle.cell_values.specs.contracts.address.AddrOrd.TheImpl as addr_ord
 use Rattle.cell_values.specs.declared.address.Addr.{Addr}
 use Rattle.cell_values.specs.declared.values.Shown.{Shown}
-use Rattle.cell_values.specs.declared.values.Value.{Value}
 use Rattle.cell_values.specs.Addresses.{same_addr}
 use Rattle.cell_values.specs.Order.{entry_at}
 use Rattle.cell_values.proofs.Order.{same_cmp, lookup_is, same_addr-refl, same_addr-true}
@@ -15,10 +14,6 @@ use Rattle.recalculation.specs.Written.{OthersStay}
 -- what is read past the end of a list of cells
 abbrev pub no_cell : Addr
 no_cell = record { sheet = 0; row = 0; col = 0 }
-
--- the same of a list of results
-abbrev pub no_result : Shown
-no_result = Shown.Val (Value.Number (pos 0))
 
 abbrev Entries : Type 0
 Entries = List (Addr × Shown)
@@ -33,10 +28,6 @@ put_on old new at r h q = sym (lookup_is new q) ∙ h q ∙ (λ j. cond (same_cm
 some_kept : (b : Bool) (r : Shown) (o : Option Shown) → IsSome o → IsSome (cond b (Some r) o)
 some_kept true r o h = refl
 some_kept false r o h = h
-
-pub none_there : (o : Option Shown) → o ≡ None → IsSome o → ⊥
-none_there None e h = cc
-none_there (Some r) e h = cc
 
 -- at the cell itself
 at_it : (old new : Entries) (at q : Addr) (r : Shown) → PutsOn old new at r → at ≡ q → entry_at new q ≡ Some r
@@ -91,5 +82,11 @@ pub read_any : (cells : List Addr) (i : ℕ) (d at : Addr) → i < length cells 
 read_any cells i d at low e f = e ∙ get_or_default cells i d f low
 
 -- the result of a cell in the list of all
-pub result_read : (f : Addr → Shown) (cells : List Addr) (results : List Shown) (i : ℕ) (d : Addr) (r : Shown) → i < length cells → results ≡ map f cells → get_or results i r ≡ f (get_or cells i d)
-result_read f cells results i d r low all = ap (λ xs. get_or xs i r) all ∙ get_or-map f cells i d r low
+pub result_there : (f : Addr → Shown) (cells : List Addr) (results : List (Option Shown)) (i : ℕ) (d : Addr) → i < length cells → results ≡ map (λ (a : Addr). Some (f a)) cells → get_or results i None ≡ Some (f (get_or cells i d))
+result_there f cells results i d low all = ap (λ xs. get_or xs i None) all ∙ get_or-map (λ (a : Addr). Some (f a)) cells i d None low
+
+pub result_read : (f : Addr → Shown) (cells : List Addr) (results : List (Option Shown)) (i : ℕ) (d : Addr) (r : Shown) → i < length cells → results ≡ map (λ (a : Addr). Some (f a)) cells → get_or results i None ≡ Some r → r ≡ f (get_or cells i d)
+result_read f cells results i d r low all e = some_same (sym e ∙ result_there f cells results i d low all)
+  where
+    some_same : Some r ≡ Some (f (get_or cells i d)) → r ≡ f (get_or cells i d)
+    some_same h = cc

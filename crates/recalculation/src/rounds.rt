@@ -1,6 +1,6 @@
 //! Rounds over the pending cells.
 
-ghost use Rattle.std.specs.Prelude.{◌≡◌, ◌≤◌, ◌<◌, ◌++◌, [], map, length, All, IfOk, OnOk, OnErr};
+ghost use Rattle.std.specs.Prelude.{◌≡◌, ◌≤◌, ◌<◌, ◌++◌, [], map, Some, length, All, IfOk, OnOk, OnErr};
 ghost use Rattle.demand_spec.specs.Book.{shown};
 ghost use Rattle.parallel_evaluation.specs.Order.{run_order};
 ghost use Rattle.parallel_evaluation.specs.Summaries.{IsSummaryOf};
@@ -10,8 +10,8 @@ ghost use Rattle.recalculation.specs.Written.{IsReady};
 use crate::book::known;
 use crate::progress::Progress;
 use crate::store::{reserve, store_all};
-use cell_values::Shown;
 use parallel_evaluation::{Summary, Traced, evaluate, evaluate_in_order};
+use result_list::ResultList;
 use std::alloc::AllocError;
 use std::marker::Sync;
 use std::thread::Threads;
@@ -33,10 +33,10 @@ impl Progress {
     }
 
     // Takes the results of the pending cells. Nothing is pending then.
-    fn take_results(&mut self, book: &Workbook, results: &[Shown])
+    fn take_results(&mut self, book: &Workbook, results: &ResultList)
         requires progress { IsProgress book.now.book self.old }
         requires ready { IsReady book.now.book self.old }
-        requires results { results.now ≡ map (shown book.now.book) self.old.stale }
+        requires results { results.now ≡ map (λ a. Some (shown book.now.book a)) self.old.stale }
         ensures progress { IsProgress book.now.book self.new }
         ensures done { pending_in book.now.book self.new ≡ [] }
     {
@@ -60,7 +60,7 @@ impl Progress {
         ensures err { OnErr result (pending_in book.now.book self.new ≡ pending_in book.now.book self.old) }
     {
         self.prepare(book)?;
-        let mut results = Vec::new(self.alloc);
+        let mut results = ResultList::new(self.alloc, 0)?;
         let summary = evaluate(
             rt,
             self.alloc,
@@ -95,7 +95,7 @@ impl Progress {
         ensures err { OnErr result ((pending_in book.now.book self.new ≡ pending_in book.now.book self.old) × (trace.new.items ≡ trace.old.items)) }
     {
         self.prepare(book)?;
-        let mut results = Vec::new(self.alloc);
+        let mut results = ResultList::new(self.alloc, 0)?;
         let summary = evaluate_in_order(
             self.alloc,
             book,

@@ -10,6 +10,7 @@ ghost use Rattle.recalculation.specs.Written.{HasRoomFor, HasResultsOf, OthersSt
 
 use cell_values::{Addr, Shown};
 use demand_spec::Results;
+use result_list::ResultList;
 use std::alloc::{AllocError, Global};
 use workbook_core::Workbook;
 
@@ -55,15 +56,18 @@ pub(crate) fn reserve(alloc: Global, stored: &mut Results, cells: &[Addr]) -> Re
 }
 
 /// Stores the results of the cells, one for each in their order.
-pub(crate) fn store_all(book: &Workbook, stored: &mut Results, cells: &[Addr], results: &[Shown])
+pub(crate) fn store_all(book: &Workbook, stored: &mut Results, cells: &[Addr], results: &ResultList)
     requires room { HasRoomFor cells.now stored.old.entries }
-    requires results { results.now ≡ map (shown book.now.book) cells.now }
+    requires results { results.now ≡ map (λ a. Some (shown book.now.book a)) cells.now }
     ensures results { HasResultsOf book.now.book cells.now stored.new.entries }
     ensures others { OthersStay cells.now stored.old.entries stored.new.entries }
 {
     let _book = book;
     for i in 0..cells.len() {
-        let Ok(()) = store(stored, cells[i], results[i]) else {
+        let Some(shown) = results.get(i) else {
+            unreachable!()
+        };
+        let Ok(()) = store(stored, cells[i], shown) else {
             unreachable!()
         };
     }

@@ -22,6 +22,7 @@ use cell_words::{CellWord, record_tag, record_value, record_words, tag_words};
 use claim_core::{Claim, Event, Publish};
 use demand_spec::{Asked, Results};
 use demand_stack::DemandStack;
+use result_list::ResultList;
 use std::alloc::{AllocError, Global};
 use workbook_core::{BookWith, Workbook};
 use worker_machine::{Action, Change, Doing, Entry, Next, Store};
@@ -100,6 +101,21 @@ fn known_step(entry: Entry, shown: Shown, held: Option<Store>) -> Next
 }
 
 impl<'b> Machine<'b> {
+    /// The list of what it knows.
+    pub(crate) fn into_results(self) -> ResultList
+        ensures { result ≡ self.entry.demands.known }
+    {
+        let Machine {
+            number: _,
+            workers: _,
+            demands,
+            held: _,
+            doing: _,
+            words: _,
+        } = self;
+        demands.into_results()
+    }
+
     /// A machine that has done nothing and knows nothing.
     #[tactic(auto, unfolding(worker_machine::specs::Machine::begins_at))]
     pub(crate) fn new(

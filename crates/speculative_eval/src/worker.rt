@@ -16,6 +16,7 @@ use crate::steps::step_parts;
 use cell_values::{Addr, Shown};
 use claim_core::{Pass, Round, Turn};
 use demand_spec::Results;
+use result_list::ResultList;
 use std::alloc::Global;
 use std::marker::Model;
 use workbook_core::Workbook;
@@ -166,5 +167,20 @@ impl<'b, H: Hints> Worker<'b, H> {
             hints: _,
         } = self;
         pass
+    }
+
+    /// Its pass, and the list of what it knows, at any time: one entry for each pending cell.
+    pub fn into_parts(self) -> (Pass, ResultList)
+        ensures pass { result.0 ≡ self.entry.pass }
+        ensures known { result.1 ≡ self.entry.state.known }
+        ensures count { length result.1 ≡ length self.entry.job.pending.cells }
+        ensures few { HasFewEvents self.entry }
+    {
+        let Worker {
+            pass,
+            machine,
+            hints: _,
+        } = self;
+        (pass, machine.into_results())
     }
 }

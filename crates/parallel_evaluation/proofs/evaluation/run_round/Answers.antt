@@ -23,7 +23,7 @@ take_all_back-requires-clause-workers g c κs =
 pub returns-clause-over : goal.returns-clause-over
 returns-clause-over g c =
     let first = c.take_all_back.ensures.first in
-    let words : length c.close.result.words ≡ length c.args.cells.now = search rules in record {
+    let words : length c.close.result.words ≡ length c.in_ok-round.round.setup.cells = search rules in record {
       over = search rules;
       done = c.close.ensures.done 0 first.0 first.1 (subst (λ m. SeesAllDone m first.0.view) (sym words) first.2);
     }

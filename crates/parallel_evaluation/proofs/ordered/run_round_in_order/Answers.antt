@@ -1,5 +1,6 @@
-use Rattle.std.proofs.Common.{rules, ◌≡◌, ◌≤◌, ◌<◌, ◌+◌, ◌++◌, ℕ, List, [], length, get_or, take, drop, vec_len, sym, subst, ap, ◌∙◌, arith}
+use Rattle.std.proofs.Common.{rules, ◌≡◌, ◌≤◌, ◌<◌, ◌+◌, ◌++◌, ℕ, List, [], Some, length, map, get_or, take, drop, vec_len, sym, subst, ap, ◌∙◌, arith}
 use Rattle.std.specs.List.{All}
+use Rattle.demand_spec.specs.Book.{shown}
 use Rattle.claim_core.specs.Table.{count_from}
 use Rattle.claim_core.specs.Passes.{SeesAllDone}
 use Rattle.speculative_eval.specs.Workers.{WorkerSeen, BelongsTo}
@@ -50,7 +51,7 @@ take_back-requires-clause-rest c κs =
 pub returns-clause-over : goal.returns-clause-over
 returns-clause-over c =
     let first = c.take_back.ensures.first in
-    let words : length c.close.result.words ≡ length c.args.cells.now = search rules in record {
+    let words : length c.close.result.words ≡ length c.in_ok-round.round.setup.cells = search rules in record {
       over = search rules;
       done = c.close.ensures.done 0 first.0 first.1 (subst (λ m. SeesAllDone m first.0.view) (sym words) first.2);
     }
@@ -73,3 +74,10 @@ returns-clause-trace c =
     appended ∙ ap (λ es. c.args.trace.now.items ++ es)
     (whole_begun round _ c.in_ok-round.passes.items c.in_ok-round.turn.words c.as_mut_slice.result.now c.args.order.now c.args.stopped.now c.run_all.new.events.items
     setup (idle.1 ∙ ap (λ n. count_from n 0) (sym workers)) c.in_ok-round.ensures.turn.1 begun ran)
+
+pub returns-clause-results : goal.returns-clause-results
+returns-clause-results c =
+    let setup = c.in_ok-round.round.setup in
+    let book : setup.book ≡ c.args.book.now.book = search rules in
+    let cells : setup.cells ≡ c.args.cells.now = search rules in
+    c.take_back.ensures.results ∙ (λ i. map (λ a. Some (shown (book i) a)) (cells i))
